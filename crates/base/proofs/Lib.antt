@@ -1,0 +1,4 @@
+pub mod Lists
+pub mod Searches
+pub mod Tests
+pub mod Writers

@@ -1,0 +1,25 @@
+-- Laws on lists beside the kit's: a list from a place on, and what lending a part of a slice makes of it. Assumes nothing.
+use Prim.Native.Nat.{ℕ, suc, _+_, _-_, _≤_, _<_}
+use mathlib.Core.Path.{_≡_, refl, sym, _∙_, ap}
+use mathlib.Core.List.{List, [], _∷_, _++_, append-nil}
+use native.Mathlib.Numerals.{add-one}
+use native.Mathlib.Omega.{arith}
+use lib.ListN.{length, getD, take, drop, length-drop, length-append, drop-of-length-le}
+use lib.Seq.{drop-cons, take-all, drop-drop}
+
+module _ {A : Type 0} (d : A) where
+  -- the list from i on, taken apart by the code's `i + 1`
+  pub drop-next : (i : ℕ) (s : List A) → i < length s → drop i s ≡ getD s i d ∷ drop (i + 1) s
+  drop-next i s h = rw (add-one, drop-cons s i d)
+
+module _ {A : Type 0} where
+  pub drop-end : (i : ℕ) (s : List A) → length s ≤ i → drop i s ≡ []
+  drop-end i s h = drop-of-length-le s h
+
+  -- `&s[a..]` reaches a callee as this
+  pub rest-lent : (a : ℕ) (s : List A) → take (length s - a) (drop a s) ≡ drop a s
+  rest-lent a s = take-all (length s - a) (drop a s) (omega (arith, length-drop a s))
+
+  -- what stands behind a lent rest that has come back: nothing
+  pub rest-back : (a : ℕ) (s : List A) → drop (length s - a) (drop a s) ≡ []
+  rest-back a s = drop-end (length s - a) (drop a s) (omega (arith, length-drop a s))

@@ -1,0 +1,13 @@
+-- Searches of a list, by a test. Assumes nothing.
+use Prim.Native.Nat.{ℕ, suc}
+use mathlib.Core.Bool.{Bool, cond}
+use mathlib.Core.List.{List, [], _∷_}
+use mathlib.Core.Option.{Option, none, some}
+
+module _ {A : Type 0} (p : A → Bool) where
+  -- the number of the first element that passes the test, where the list's first has the number k
+  unfoldable pub first : ℕ → List A → Option ℕ
+  first k [] = none
+  first k (x ∷ xs) =
+      let more = first (suc k) xs in
+      cond (p x) (some k) more

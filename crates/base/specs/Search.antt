@@ -11,3 +11,10 @@ module _ {A : Type 0} (p : A → Bool) where
   first k (x ∷ xs) =
       let more = first (suc k) xs in
       cond (p x) (some k) more
+
+  -- how many elements pass the test before the first that doesn't
+  unfoldable pub leading : List A → ℕ
+  leading [] = 0
+  leading (x ∷ xs) =
+      let more = suc (leading xs) in
+      cond (p x) more 0

@@ -31,7 +31,7 @@ next ended b = cond (eqb b LF) begin broken
 next broken b = broken
 
 -- whether a file may end there
-unfoldable pub final : State → Bool
+abbrev pub final : State → Bool
 final begin = true
 final plain = true
 final quoted = false

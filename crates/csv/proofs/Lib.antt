@@ -1,3 +1,7 @@
 pub mod Bytes
+pub mod Decides
+pub mod Parts
 pub mod Scanned
+pub mod Steps
 pub mod Tallies
+pub mod Walk

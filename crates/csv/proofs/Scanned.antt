@@ -34,6 +34,7 @@ use Rattle.csv.specs.Reading.{
   rfc4180,
   records,
 }
+use Rattle.csv.proofs.Steps.{broken-refuses}
 use Rattle.csv.proofs.Tallies.{one-le}
 use Rattle.csv.specs.declared.scanning.Shape.the-variants.{Regular}
 use Rattle.csv.specs.Scan.{Tally, one, start, over, within, separates, atEnd, step, tally, finished, answer, fitting, scanned}
@@ -115,11 +116,6 @@ joined-none width fit done = go (eqb fit done)
     go true = omega arith
     go false = refl
 
-not-broken : (s : List ℕ) → regular broken s ≡ false
-unfolding regular next
-not-broken [] = refl
-not-broken (b ∷ s) = not-broken s
-
 -- behind a CR only a LF goes on
 begins : (b : ℕ) (s : List ℕ) → regular (next ended b) s ≡ true → next ended b ≡ begin
 unfolding next
@@ -127,7 +123,7 @@ begins b s e = go (eqb b LF) e
   where
     go : (x : Bool) → regular (cond x begin broken) s ≡ true → cond x begin broken ≡ begin
     go true e = refl
-    go false e = false-true (sym (not-broken s) ∙ e)
+    go false e = false-true (sym (broken-refuses s) ∙ e)
 
 not-nil : {A : Type 0} {b : ℕ} {s : List ℕ} → _≡_ {A = List ℕ} (b ∷ s) [] → A
 not-nil e = let z : _≡_ {A = ℕ} 0 1 = cc in absurd (omega arith)

@@ -1,0 +1,33 @@
+-- Fields as parts of a file: where the text of a field that stands at the start of some bytes ends, its quotes included,
+-- and what is left unread behind it. Assumes nothing; that these are the fields of a file by RFC 4180 is shown in
+-- `proofs/Parts`.
+use Prim.Native.Nat.{ℕ, suc, _+_, _-_}
+use mathlib.Core.Bool.{Bool, true, false, cond, _&&_, _||_, not}
+use mathlib.Core.List.{List, [], _∷_}
+use lib.Dec.{eqb}
+use lib.ListN.{length, getD, take, drop}
+use Rattle.csv.specs.Grammar.{COMMA, CR, DQUOTE}
+
+-- whether the byte behind b stands inside quotes
+abbrev pub turned : Bool → ℕ → Bool
+turned inside b = cond (eqb b DQUOTE) (not inside) inside
+
+-- whether a byte is the separator behind a field
+abbrev pub separates : Bool → ℕ → Bool
+separates inside b = not inside && (eqb b COMMA || eqb b CR)
+
+-- how many bytes, inside quotes or not, stand before the separator or the end
+unfoldable pub extent : Bool → List ℕ → ℕ
+extent inside [] = 0
+extent inside (b ∷ s) =
+    let more = suc (extent (turned inside b) s) in
+    cond (separates inside b) 0 more
+
+-- what is left unread behind a field of n bytes at the start of some bytes, and behind its COMMA or CR LF
+unfoldable pub unread : List ℕ → ℕ → List ℕ
+unread s n = drop (n + cond (eqb (getD s n 0) COMMA) 1 2) s
+
+-- a field's text without the quotes around it; doubled quotes stay doubled
+unfoldable pub inner : List ℕ → List ℕ
+inner [] = []
+inner (b ∷ s) = cond (eqb b DQUOTE) (take (length s - 1) s) (b ∷ s)

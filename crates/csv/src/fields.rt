@@ -1,0 +1,82 @@
+// Fields as parts of a file that begin where the field begins, a quoted one at its opening quote.
+ghost use mathlib.Core.Path.{_≡_};
+ghost use mathlib.Core.Bool.{false};
+ghost use lib.ListN.{length};
+ghost use Prim.Native.Nat.{_≤_};
+ghost use Rattle.csv.specs.Fields.{extent, unread as Fields·unread, inner as Fields·inner, turned as Fields·turned, separates as Fields·separates};
+
+const CR: u8 = 0x0D;
+
+const DQUOTE: u8 = 0x22;
+
+const COMMA: u8 = 0x2C;
+
+// How many bytes the field at the start of `s` has, its quotes included.
+pub fn field_length(s: &[u8]) -> usize
+    ensures { λ r. ⌜ r ≡ extent false (now (s .entry)) ⌝ }
+    ensures { λ r. ⌜ r ≤ length (now (s .entry)) ⌝ }
+{
+    let mut inside = false;
+    let mut i = 0;
+    while i < s.len() {
+        if separates(inside, s[i]) {
+            return i;
+        }
+        inside = turned(inside, s[i]);
+        i += 1;
+    }
+    i
+}
+
+// What is left unread behind a field of `n` bytes at the start of `s`, and behind its COMMA or
+// CR LF.
+pub fn unread(s: &[u8], n: usize) -> &[u8]
+    ensures { λ r. ⌜ now r ≡ Fields·unread (now (s .entry)) n ⌝ }
+{
+    let end = s.len();
+    if end <= n {
+        return &s[end..];
+    }
+    if s[n] == COMMA {
+        return &s[n + 1..];
+    }
+    if end <= n + 2 {
+        return &s[end..];
+    }
+    &s[n + 2..]
+}
+
+// The text of a field without the quotes around it.
+pub fn inner(t: &[u8]) -> &[u8]
+    ensures { λ r. ⌜ now r ≡ Fields·inner (now (t .entry)) ⌝ }
+{
+    if t.len() == 0 {
+        return t;
+    }
+    if t[0] == DQUOTE {
+        if t.len() == 1 {
+            return &t[1..];
+        }
+        let end = t.len() - 1;
+        return &t[1..end];
+    }
+    t
+}
+
+fn turned(inside: bool, b: u8) -> bool
+    ensures { λ r. ⌜ r ≡ Fields·turned inside b ⌝ }
+{
+    if b == DQUOTE { !inside } else { inside }
+}
+
+fn separates(inside: bool, b: u8) -> bool
+    ensures { λ r. ⌜ r ≡ Fields·separates inside b ⌝ }
+{
+    if inside {
+        return false;
+    }
+    if b == COMMA {
+        return true;
+    }
+    b == CR
+}

@@ -16,7 +16,7 @@ use Rattle.numeral.specs.Numeral.{
   ZERO,
   NINE,
   Digit,
-  append,
+  withDigit,
   Digits,
   Digits.end,
   Digits.digit,
@@ -36,7 +36,7 @@ none-some : {A : Type 0} {n : ℕ} → _≡_ {A = Option ℕ} none (some n) → 
 none-some e = let z : _≡_ {A = ℕ} 0 1 = cc in absurd (omega arith)
 
 -- one step of the reading: a digit, or another byte
-pub from-digit : (m b : ℕ) (s : List ℕ) → Digit b → digitsFrom m (b ∷ s) ≡ digitsFrom (append m b) s
+pub from-digit : (m b : ℕ) (s : List ℕ) → Digit b → digitsFrom m (b ∷ s) ≡ digitsFrom (withDigit m b) s
 unfolding digitsFrom
 from-digit m b s d = simp (le-leb _ _ (d .least), le-leb _ _ (d .most))
 
@@ -44,7 +44,7 @@ pub from-other : (m b : ℕ) (s : List ℕ) → (Digit b → ⊥) → digitsFrom
 unfolding digitsFrom
 from-other m b s h = go (leb ZERO b && leb b NINE) refl
   where
-    go : (t : Bool) → (leb ZERO b && leb b NINE) ≡ t → cond t (digitsFrom (append m b) s) none ≡ none
+    go : (t : Bool) → (leb ZERO b && leb b NINE) ≡ t → cond t (digitsFrom (withDigit m b) s) none ≡ none
     go true e = absurd (h (record { least = leb-true ZERO b (and-fst (leb ZERO b) (leb b NINE) e); most = leb-true b NINE (and-snd (leb ZERO b) (leb b NINE) e) }))
     go false e = refl
 
@@ -71,9 +71,9 @@ digits-read (digit {m = m} {b = b} {s = s} d r) = from-digit m b s d ∙ digits-
 read-digits : (m : ℕ) (s : List ℕ) (n : ℕ) → digitsFrom m s ≡ some n → Digits m s n
 unfolding digitsFrom
 read-digits m [] n e = let h : m ≡ n = cc in subst (λ (x : ℕ). Digits m [] x) h end
-read-digits m (b ∷ s) n e = go (digit-or b) (read-digits (append m b) s n)
+read-digits m (b ∷ s) n e = go (digit-or b) (read-digits (withDigit m b) s n)
   where
-    go : Digit b ⊎ (Digit b → ⊥) → (digitsFrom (append m b) s ≡ some n → Digits (append m b) s n) → Digits m (b ∷ s) n
+    go : Digit b ⊎ (Digit b → ⊥) → (digitsFrom (withDigit m b) s ≡ some n → Digits (withDigit m b) s n) → Digits m (b ∷ s) n
     go (inl d) ih = digit d (ih (sym (from-digit m b s d) ∙ e))
     go (inr h) ih = none-some (sym (from-other m b s h) ∙ e)
 
@@ -173,9 +173,9 @@ before-read zero n t p q = absurd (omega arith)
 before-read (suc k) n t p q =
     go (before-read k (n / 10) ((ZERO + n % 10) ∷ t)) (lt-or-ge n 10)
   where
-    first : n < 10 → append 0 (ZERO + n) ≡ n
+    first : n < 10 → withDigit 0 (ZERO + n) ≡ n
     first l = omega arith
-    again : append (n / 10) (ZERO + n % 10) ≡ n
+    again : withDigit (n / 10) (ZERO + n % 10) ≡ n
     again = omega arith
     go : (n / 10 ≤ k → 0 < n / 10 → number (before (n / 10) ((ZERO + n % 10) ∷ t)) ≡ digitsFrom (n / 10) ((ZERO + n % 10) ∷ t))
         → (n < 10) ⊎ (10 ≤ n) → number (before n t) ≡ digitsFrom n t
@@ -195,19 +195,19 @@ before-digits : {m n : ℕ} {s : List ℕ} → Digits m s n → 0 < m → before
 unfolding digits
 before-digits end p = refl
 before-digits (digit {m = m} {b = b} {s = s} d r) p =
-    let first : append m b / 10 ≡ m = omega arith in
-    let last : ZERO + append m b % 10 ≡ b = omega arith in
-    sym (rw (first, last) at (before-more (append m b) s (omega arith))) ∙ before-digits r (omega arith)
+    let first : withDigit m b / 10 ≡ m = omega arith in
+    let last : ZERO + withDigit m b % 10 ≡ b = omega arith in
+    sym (rw (first, last) at (before-more (withDigit m b) s (omega arith))) ∙ before-digits r (omega arith)
 
 pub numeral-digits : {s : List ℕ} {n : ℕ} → Numeral s n → s ≡ digits n
 unfolding digits digitsBefore
 numeral-digits zero-itself = refl
 numeral-digits (no-leading-zero h (digit {b = b} {s = s} d r)) =
-    let first : ZERO + append 0 b ≡ b = omega arith in
-    sym (rw first at (before-one (append 0 b) s (omega arith))) ∙ before-digits r (omega arith)
+    let first : ZERO + withDigit 0 b ≡ b = omega arith in
+    sym (rw first at (before-one (withDigit 0 b) s (omega arith))) ∙ before-digits r (omega arith)
 
-pub digits-unique : (s : List ℕ) (n : ℕ) → number s ≡ some n → s ≡ digits n
-digits-unique s n e = numeral-digits (number-numeral s n e)
+pub digits-number : (s : List ℕ) (n : ℕ) → number s ≡ some n → s ≡ digits n
+digits-number s n e = numeral-digits (number-numeral s n e)
 
 pub digits-numeral : (n : ℕ) → Numeral (digits n) n
 digits-numeral n = number-numeral (digits n) n (number-digits n)
@@ -217,19 +217,19 @@ digits-all : {m n b : ℕ} {s : List ℕ} → Digits m s n → List·Memᴰ b s 
 digits-all (digit d r) (List·Memᴰ·head e) = rw e d
 digits-all (digit d r) (List·Memᴰ·tail i) = digits-all r i
 
-pub numeral-all : {b n : ℕ} {s : List ℕ} → Numeral s n → List·Memᴰ b s → Digit b
-numeral-all zero-itself (List·Memᴰ·head e) = rw e (omega arith)
-numeral-all (no-leading-zero h r) i = digits-all r i
+pub numeral-digit : {b n : ℕ} {s : List ℕ} → Numeral s n → List·Memᴰ b s → Digit b
+numeral-digit zero-itself (List·Memᴰ·head e) = rw e (omega arith)
+numeral-digit (no-leading-zero h r) i = digits-all r i
 
 pub digits-digit : (n : ℕ) {b : ℕ} → List·Memᴰ b (digits n) → Digit b
-digits-digit n i = numeral-all (digits-numeral n) i
+digits-digit n i = numeral-digit (digits-numeral n) i
 
 pub no-numeral : (s : List ℕ) {b : ℕ} → (Digit b → ⊥) → List·Memᴰ b s → number s ≡ none
 no-numeral s h i = go (number s) refl
   where
     go : (o : Option ℕ) → number s ≡ o → o ≡ none
     go none e = refl
-    go (some n) e = absurd (h (numeral-all (number-numeral s n e) i))
+    go (some n) e = absurd (h (numeral-digit (number-numeral s n e) i))
 
 pub no-numeral-around : (a c : List ℕ) (b : ℕ) → (Digit b → ⊥) → number (a ++ b ∷ c) ≡ none
 no-numeral-around a c b h = no-numeral (a ++ b ∷ c) h (Memᴰ·append-right a (List·Memᴰ·head refl))
@@ -245,8 +245,8 @@ module _ (least most : ℕ) where
   unfolding within digitsFrom
   above n [] h = simp (lt-leb n most h, and-false)
   above n (b ∷ s) h =
-      guarded (leb ZERO b && leb b NINE) (digitsFrom (append n b) s) (above (append n b) s (omega arith))
+      guarded (leb ZERO b && leb b NINE) (digitsFrom (withDigit n b) s) (above (withDigit n b) s (omega arith))
 
-  pub above-next : (n b : ℕ) (s : List ℕ) → most < append n b → within least most (digitsFrom n (b ∷ s)) ≡ none
+  pub above-next : (n b : ℕ) (s : List ℕ) → most < withDigit n b → within least most (digitsFrom n (b ∷ s)) ≡ none
   unfolding digitsFrom
-  above-next n b s h = guarded (leb ZERO b && leb b NINE) (digitsFrom (append n b) s) (above (append n b) s h)
+  above-next n b s h = guarded (leb ZERO b && leb b NINE) (digitsFrom (withDigit n b) s) (above (withDigit n b) s h)

@@ -23,13 +23,13 @@ pub record Digit (b : ℕ) : Type 0 where
   pub most : b ≤ NINE
 
 -- one more digit behind a number
-abbrev pub append : ℕ → ℕ → ℕ
-append m b = 10 * m + (b - ZERO)
+abbrev pub withDigit : ℕ → ℕ → ℕ
+withDigit m b = 10 * m + (b - ZERO)
 
 -- s is digits, and behind a number m they make the number n
 pub data Digits : ℕ → List ℕ → ℕ → Type 0 where
   end : {m : ℕ} → Digits m [] m
-  digit : {m b n : ℕ} {s : List ℕ} → Digit b → Digits (append m b) s n → Digits m (b ∷ s) n
+  digit : {m b n : ℕ} {s : List ℕ} → Digit b → Digits (withDigit m b) s n → Digits m (b ∷ s) n
 
 -- s is a numeral of value n: `0` itself, or digits of which the first is not 0
 pub data Numeral : List ℕ → ℕ → Type 0 where
@@ -40,7 +40,7 @@ pub data Numeral : List ℕ → ℕ → Type 0 where
 unfoldable pub digitsFrom : ℕ → List ℕ → Option ℕ
 digitsFrom m [] = some m
 digitsFrom m (b ∷ s) =
-    let more = digitsFrom (append m b) s in
+    let more = digitsFrom (withDigit m b) s in
     cond (leb ZERO b && leb b NINE) more none
 
 -- whether a zero leads, in front of something

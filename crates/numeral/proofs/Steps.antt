@@ -3,7 +3,7 @@
 use Prim.Native.Nat.{ℕ, _+_, _/_, _%_, _≤_, _<_}
 use mathlib.Core.Path.{_≡_, refl, sym, _∙_}
 use mathlib.Core.Bool.{true, false}
-use mathlib.Core.List.{List, [], _∷_, _++_}
+use mathlib.Core.List.{List, [], _∷_}
 use mathlib.Core.Option.{Option, none, some}
 use native.Mathlib.Omega.{arith}
 use lib.Dec.{eqb}
@@ -14,7 +14,8 @@ use Rattle.base.proofs.Lists.{drop-next, drop-end, drop-set}
 use Rattle.numeral.specs.declared.Answer.the-variants.{Number, Refused}
 use Rattle.numeral.specs.Answers.{answer}
 use Rattle.numeral.specs.Numeral.{ZERO, Digit, withDigit, digitsFrom, leadingZero, number, within, digits}
-use Rattle.numeral.proofs.Laws.{from-digit, from-other, above-next, before, before-one, before-more, before-append}
+use Rattle.numeral.proofs.Reading.{from-digit, from-other, above-next}
+use Rattle.numeral.proofs.Writing.{before, before-one, before-more, before-append}
 
 -- whether a zero leads
 pub leads-short : (s : List ℕ) → length s < 2 → false ≡ leadingZero s
@@ -94,9 +95,9 @@ written-first out old at rest n count h p k c e =
     record {
       counted = c;
       written =
-        drop-set 0 out (ZERO + rest) h
-        ∙ sym (before-one rest (drop 1 out) k)
-        ∙ (rw p at e)
-        ∙ before-append n (drop count old)
-        ∙ rw c;
+          drop-set 0 out (ZERO + rest) h
+          ∙ sym (before-one rest (drop 1 out) k)
+          ∙ (rw p at e)
+          ∙ before-append n (drop count old)
+          ∙ rw c;
     }

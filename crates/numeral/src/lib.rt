@@ -8,7 +8,9 @@ ghost use Rattle.numeral.specs.Answers.{answer};
 ghost use Rattle.numeral.specs.Numeral.{digits, leadingZero, number, within};
 
 const BASE: u64 = 10;
+
 const ZERO: u8 = b'0';
+
 const NINE: u8 = b'9';
 
 pub enum Answer {

@@ -5,7 +5,8 @@ use mathlib.Core.Path.{_≡_}
 use native.Mathlib.Omega.{arith}
 use lib.ListN.{length}
 use Rattle.numeral.specs.Numeral.{digits}
-use Rattle.numeral.proofs.Laws.{length-one, length-more, length-at-least, length-u64}
+use Rattle.numeral.proofs.Laws.{length-at-least, length-u64}
+use Rattle.numeral.proofs.Writing.{length-one, length-more}
 use Rattle.numeral.proofs.digit_count.Statement.{statement}
 use Rattle.numeral.proofs.digit_count.Tie as tie
 

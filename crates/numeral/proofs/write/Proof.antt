@@ -6,7 +6,8 @@ use mathlib.Core.Path.{_≡_, refl}
 use native.Mathlib.Omega.{arith}
 use lib.ListN.{length, drop, length-set}
 use Rattle.numeral.specs.Numeral.{digits}
-use Rattle.numeral.proofs.Laws.{before, length-one, length-more, length-at-least}
+use Rattle.numeral.proofs.Laws.{length-at-least}
+use Rattle.numeral.proofs.Writing.{before, length-one, length-more}
 use Rattle.numeral.proofs.Steps.{written-digit, written-first}
 use Rattle.numeral.proofs.write.Statement.{statement}
 use Rattle.numeral.proofs.write.Tie as tie
@@ -47,11 +48,12 @@ loop-again c =
     let l = c .before .loop in
     let more = length-more (l .rest) (omega arith) in
     let some = length-at-least (l .rest / 10) in
-    let text = l .inv .3 in
-    (omega arith,
-     simp length-set (omega arith),
-     simp length-set (omega arith),
-     written-digit (l .out) _ (l .at - 1) (l .at) (l .rest) (omega arith) (omega arith) (omega arith) text)
+    let text = l .inv .3 in (
+      omega arith,
+      simp length-set (omega arith),
+      simp length-set (omega arith),
+      written-digit (l .out) _ (l .at - 1) (l .at) (l .rest) (omega arith) (omega arith) (omega arith) text,
+    )
 
 cast-out-2 : tie.Need-cast-out-2 Inv-loop μ-loop
 cast-out-2 c = omega arith

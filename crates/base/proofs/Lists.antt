@@ -4,8 +4,8 @@ use mathlib.Core.Path.{_≡_, refl, sym, _∙_, ap}
 use mathlib.Core.List.{List, [], _∷_, _++_, append-nil}
 use native.Mathlib.Numerals.{add-one}
 use native.Mathlib.Omega.{arith}
-use lib.ListN.{length, getD, take, drop, length-drop, length-append, drop-of-length-le}
-use lib.Seq.{drop-cons, take-all, drop-drop}
+use lib.ListN.{length, getD, take, drop, length-drop, length-append, drop-of-length-le, set}
+use lib.Seq.{drop-cons, take-all, drop-drop, getD-set-same, drop-set-lt, lt-length-set}
 
 module _ {A : Type 0} (d : A) where
   -- the list from i on, taken apart by the code's `i + 1`
@@ -23,3 +23,10 @@ module _ {A : Type 0} where
   -- what stands behind a lent rest that has come back: nothing
   pub rest-back : (a : ℕ) (s : List A) → drop (length s - a) (drop a s) ≡ []
   rest-back a s = drop-end (length s - a) (drop a s) (omega (arith, length-drop a s))
+
+  -- the list from a place on, where that place has been stored
+  pub drop-set : (i : ℕ) (s : List A) (a : A) → i < length s → drop i (set s i a) ≡ a ∷ drop (i + 1) s
+  drop-set i s a h =
+      let k : i < length (set s i a) = lt-length-set s i a h in
+      let j : i < i + 1 = omega arith in
+      rw (drop-next a i (set s i a), getD-set-same, drop-set-lt)

@@ -1,0 +1,5 @@
+pub mod Examples
+pub mod Laws
+pub mod Reading
+pub mod Steps
+pub mod Writing

@@ -18,3 +18,9 @@ module _ {A : Type 0} (p : A → Bool) where
   leading (x ∷ xs) =
       let more = suc (leading xs) in
       cond (p x) more 0
+
+-- the first of several that is there
+unfoldable pub firstOf : {A : Type 0} → List (Option A) → Option A
+firstOf [] = none
+firstOf (none ∷ os) = firstOf os
+firstOf (some x ∷ os) = some x

@@ -1,0 +1,83 @@
+-- Document 01, "Files": the one fixed table of the files, their headers, columns, permitted ranges and numbers of rows.
+-- Assumes nothing.
+use Prim.Native.Nat.{ℕ}
+use Prim.Native.String.{String}
+use mathlib.Core.List.{List, [], _∷_, _++_, map}
+use lib.ListN.{length}
+use Rattle.base.specs.Text.{bytes}
+use Rattle.tables.specs.declared.File.{File}
+use Rattle.tables.specs.declared.File.the-variants.{Constraint, Supply, Schedules}
+
+-- what a field may hold
+pub data Form : Type 0 where
+  numeral : Form  -- a numeral
+  signed : Form  -- a numeral, or `-` and a nonzero numeral. Its minimum stands in the table without the minus
+  letter : Form  -- one of two letters, which stand in the table as its minimum and maximum
+
+pub record Column : Type 0 where
+  pub name : List ℕ
+  pub form : Form
+  pub minimum : ℕ
+  pub maximum : ℕ
+
+pub record Table : Type 0 where
+  -- its number in a refusal
+  pub number : ℕ
+  pub columns : List Column
+  pub fewestRows : ℕ
+  pub mostRows : ℕ
+
+abbrev pub column : String → Form → ℕ → ℕ → Column
+column name form minimum maximum = record { name = bytes name; form = form; minimum = minimum; maximum = maximum }
+
+-- the letters of a kind: market-based and cost-based
+abbrev pub M : ℕ
+M = 0x4D
+
+abbrev pub C : ℕ
+C = 0x43
+
+-- Behind each column its unit of measure.
+unfoldable pub constraintColumns : List Column
+constraintColumns =
+    column "hour" numeral 0 23  -- hours
+    ∷ column "relief" numeral 1 1000000  -- tenths of a MW
+    ∷ column "cutoff" numeral 1 10000  -- ten-thousandths
+    ∷ []
+
+unfoldable pub supplyColumns : List Column
+supplyColumns =
+    column "unit" numeral 1 9999  -- a number
+    ∷ column "supplier" numeral 1 999  -- a number
+    ∷ column "mw" numeral 1 100000  -- tenths of a MW
+    ∷ column "cost" numeral 0 200000  -- cents per MWh
+    ∷ column "dfax" signed 10000 10000  -- ten-thousandths, from -10000
+    ∷ []
+
+unfoldable pub schedulesColumns : List Column
+schedulesColumns =
+    column "unit" numeral 1 9999  -- a number
+    ∷ column "schedule" numeral 1 99  -- a number
+    ∷ column "kind" letter C M  -- a letter
+    ∷ column "hour" numeral 0 23  -- hours
+    ∷ column "ecomin" numeral 0 100000  -- tenths of a MW
+    ∷ column "price" numeral 0 200000  -- cents per MWh
+    ∷ column "noload" numeral 0 100000000  -- cents per hour
+    ∷ column "startup" numeral 0 100000000  -- cents
+    ∷ column "minrun" numeral 1 24  -- hours
+    ∷ []
+
+unfoldable pub table : File → Table
+table Constraint = record { number = 1; columns = constraintColumns; fewestRows = 1; mostRows = 1 }
+table Supply = record { number = 2; columns = supplyColumns; fewestRows = 0; mostRows = 256 }
+table Schedules = record { number = 3; columns = schedulesColumns; fewestRows = 0; mostRows = 1024 }
+
+-- the columns of all files, one behind the other, as the code's tables have them
+unfoldable pub allColumns : List Column
+allColumns = constraintColumns ++ supplyColumns ++ schedulesColumns
+
+unfoldable pub header : File → List (List ℕ)
+header f = map (λ (c : Column). c .name) (table f .columns)
+
+unfoldable pub width : File → ℕ
+width f = length (table f .columns)

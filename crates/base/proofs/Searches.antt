@@ -1,10 +1,15 @@
 -- Laws of searches. Assumes nothing.
-use Prim.Native.Nat.{ℕ, suc, _+_, _<_, _≤_}
+use Prim.Native.Nat.{ℕ, suc, _+_, _≤_}
 use mathlib.Core.Path.{_≡_, refl}
-use mathlib.Core.Bool.{Bool, true, false, cond}
+use mathlib.Core.Logic.{⊎-elim}
+use mathlib.Core.Bool.{Bool, true, false, cond, _&&_}
 use mathlib.Core.List.{List, [], _∷_}
 use mathlib.Core.Option.{Option, none, some}
-use Rattle.base.specs.Search.{first}
+use native.Mathlib.Omega.{arith}
+use lib.Dec.{eqb}
+use borrow.Author.Tests.{eq-eqb, ne-eqb}
+use Rattle.base.specs.Search.{one, first, leading}
+use Rattle.base.proofs.Tests.{either, eq-or-ne}
 
 module _ {A : Type 0} (p : A → Bool) where
   -- the four steps of a search: nothing is left, the next element passes, it doesn't, and what was searched is spent
@@ -19,3 +24,43 @@ module _ {A : Type 0} (p : A → Bool) where
   pub first-later : (k : ℕ) (x : A) (xs : List A) → p x ≡ false → first p k (x ∷ xs) ≡ first p (suc k) xs
   unfolding first
   first-later k x xs e = simp e
+
+pub one-le : (t : Bool) → one t ≤ 1
+one-le true = omega arith
+one-le false = omega arith
+
+-- A count that is kept as elements come, one after the other: of `done` elements the first `run` pass the test, and all
+-- do where the two are the same.
+module _ {A : Type 0} (p : A → Bool) where
+  -- the count once the elements xs have come too
+  unfoldable pub joined : ℕ → ℕ → List A → ℕ
+  joined run done xs = cond (eqb run done) (run + leading p xs) run
+
+  pub joined-none : (run done : ℕ) → joined run done [] ≡ run
+  unfolding joined leading
+  joined-none run done = go (eqb run done)
+    where
+      go : (x : Bool) → cond x (run + 0) run ≡ run
+      go true = omega arith
+      go false = refl
+
+  pub joined-more :
+      (run done : ℕ) (x : A) (xs : List A) → run ≤ done →
+      joined (run + one (eqb run done && p x)) (done + 1) xs ≡ joined run done (x ∷ xs)
+  unfolding joined leading
+  joined-more run done x xs le = ⊎-elim same other (eq-or-ne run done)
+    where
+      Goal : Type 0
+      Goal = joined (run + one (eqb run done && p x)) (done + 1) xs ≡ joined run done (x ∷ xs)
+
+      other : (run ≡ done → ⊥) → Goal
+      other e = simp (ne-eqb run done e, ne-eqb (run + 0) (done + 1) (omega arith)) (omega arith)
+
+      passes : run ≡ done → p x ≡ true → Goal
+      passes e f = simp (eq-eqb run done e, f, eq-eqb (run + 1) (done + 1) (omega arith)) (omega arith)
+
+      fails : run ≡ done → p x ≡ false → Goal
+      fails e f = simp (eq-eqb run done e, f, ne-eqb (run + 0) (done + 1) (omega arith)) (omega arith)
+
+      same : run ≡ done → Goal
+      same e = ⊎-elim (passes e) (fails e) (either (p x))

@@ -4,6 +4,10 @@ use mathlib.Core.Bool.{Bool, cond}
 use mathlib.Core.List.{List, [], _∷_}
 use mathlib.Core.Option.{Option, none, some}
 
+-- a test as a number to add
+abbrev pub one : Bool → ℕ
+one t = cond t 1 0
+
 module _ {A : Type 0} (p : A → Bool) where
   -- the number of the first element that passes the test, where the list's first has the number k
   unfoldable pub first : ℕ → List A → Option ℕ

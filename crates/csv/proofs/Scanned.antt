@@ -9,8 +9,9 @@ use native.Mathlib.Nat.{add-assoc}
 use lib.Dec.{eqb}
 use lib.ListN.{length, length-map}
 use borrow.Author.Tests.{eqb-true, eqb-false, eq-eqb, ne-eqb}
-use Rattle.base.specs.Search.{leading}
-use Rattle.base.proofs.Tests.{either, eq-or-ne, false-true}
+use Rattle.base.specs.Search.{one}
+use Rattle.base.proofs.Searches.{joined, joined-none, joined-more, one-le}
+use Rattle.base.proofs.Tests.{either, false-true}
 use Rattle.csv.specs.Grammar.{COMMA, DQUOTE, LF}
 use Rattle.csv.specs.Reading.{
   State,
@@ -35,35 +36,8 @@ use Rattle.csv.specs.Reading.{
   records,
 }
 use Rattle.csv.proofs.Steps.{broken-refuses}
-use Rattle.csv.proofs.Tallies.{one-le}
 use Rattle.csv.specs.declared.scanning.Shape.the-variants.{Regular}
-use Rattle.csv.specs.Scan.{Tally, one, start, over, within, separates, atEnd, step, tally, finished, answer, fitting, scanned}
-
--- the run of `fit` fitting records among `done`, once records of the field counts cs have ended too
-pub joined : ℕ → ℕ → ℕ → List ℕ → ℕ
-joined width fit done cs = cond (eqb fit done) (fit + leading (eqb width) cs) fit
-
--- one more of them
-joined-more :
-    (width fit done n : ℕ) (cs : List ℕ) → fit ≤ done →
-    joined width (fit + one (eqb fit done && eqb width n)) (done + 1) cs ≡ joined width fit done (n ∷ cs)
-unfolding joined leading
-joined-more width fit done n cs le = ⊎-elim same other (eq-or-ne fit done)
-  where
-    Goal : Type 0
-    Goal = joined width (fit + one (eqb fit done && eqb width n)) (done + 1) cs ≡ joined width fit done (n ∷ cs)
-
-    other : (fit ≡ done → ⊥) → Goal
-    other e = simp (ne-eqb fit done e, ne-eqb (fit + 0) (done + 1) (omega arith)) (omega arith)
-
-    fits : fit ≡ done → width ≡ n → Goal
-    fits e f = simp (eq-eqb fit done e, eq-eqb width n f, eq-eqb (fit + 1) (done + 1) (omega arith)) (omega arith)
-
-    misfits : fit ≡ done → (width ≡ n → ⊥) → Goal
-    misfits e f = simp (eq-eqb fit done e, ne-eqb width n f, ne-eqb (fit + 0) (done + 1) (omega arith)) (omega arith)
-
-    same : fit ≡ done → Goal
-    same e = ⊎-elim (fits e) (misfits e) (eq-or-ne width n)
+use Rattle.csv.specs.Scan.{Tally, start, over, within, separates, atEnd, step, tally, finished, answer, fitting, scanned}
 
 -- the field counts of the records from a tally on
 counts : ℕ → Rest → List ℕ
@@ -72,7 +46,7 @@ counts begun r = (begun + length (r .fields)) ∷ map length (r .records)
 -- what a tally finds in the bytes s by their end
 pub record Finds (width : ℕ) (t : Tally) (cs : List ℕ) (end : Tally) : Type 0 where
   pub records : end .records ≡ t .records + length cs
-  pub fitting : end .fitting ≡ joined width (t .fitting) (t .records) cs
+  pub fitting : end .fitting ≡ joined (eqb width) (t .fitting) (t .records) cs
 
 -- what holds of every tally on the way
 pub record Sound (t : Tally) : Type 0 where
@@ -107,14 +81,6 @@ module _ (b : ℕ) (s : List ℕ) (r : Rest) where
   adds closing e = closed (eqb b DQUOTE) refl
   adds ended e = false-true (sym e)
   adds broken e = record { fields = omega arith; records = refl }
-
-joined-none : (width fit done : ℕ) → joined width fit done [] ≡ fit
-unfolding joined leading
-joined-none width fit done = go (eqb fit done)
-  where
-    go : (x : Bool) → cond x (fit + 0) fit ≡ fit
-    go true = omega arith
-    go false = refl
 
 -- behind a CR only a LF goes on
 begins : (b : ℕ) (s : List ℕ) → regular (next ended b) s ≡ true → next ended b ≡ begin
@@ -154,11 +120,11 @@ module _ (width : ℕ) where
   finds-over {cs} {end} q t h f =
       record {
         records = omega (arith, f .records);
-        fitting = f .fitting ∙ joined-more width (t .fitting) (t .records) (t .fields) cs (h .less);
+        fitting = f .fitting ∙ joined-more (eqb width) (t .fitting) (t .records) (t .fields) cs (h .less);
       }
 
   finds-none : (t : Tally) → Finds width t [] t
-  finds-none t = record { records = omega arith; fitting = sym (joined-none width (t .fitting) (t .records)) }
+  finds-none t = record { records = omega arith; fitting = sym (joined-none (eqb width) (t .fitting) (t .records)) }
 
   sound-within : (b : ℕ) (t : Tally) → Sound t → Sound (within b t)
   unfolding within

@@ -7,12 +7,9 @@ use native.Mathlib.Omega.{arith}
 use lib.Dec.{eqb}
 use lib.ListN.{length, getD, drop}
 use Rattle.base.proofs.Lists.{drop-next, drop-end}
+use Rattle.base.proofs.Searches.{one-le}
 use Rattle.csv.specs.Reading.{next}
-use Rattle.csv.specs.Scan.{Tally, one, over, within, separates, atEnd, step, tally}
-
-pub one-le : (t : Bool) → one t ≤ 1
-one-le true = omega arith
-one-le false = omega arith
+use Rattle.csv.specs.Scan.{Tally, over, within, separates, atEnd, step, tally}
 
 module _ (width : ℕ) where
   pub tally-next : (t : Tally) (s : List ℕ) (i : ℕ) → i < length s → tally width t (drop i s) ≡ tally width (step width t (getD s i 0)) (drop (i + 1) s)

@@ -1,7 +1,7 @@
 -- Fields as parts of a file: where the text of a field that stands at the start of some bytes ends, its quotes included,
 -- and what is left unread behind it. Assumes nothing; that these are the fields of a file by RFC 4180 is shown in
 -- `proofs/Parts`.
-use Prim.Native.Nat.{ℕ, suc, _+_, _-_}
+use Prim.Native.Nat.{ℕ, zero, suc, _+_, _-_}
 use mathlib.Core.Bool.{Bool, true, false, cond, _&&_, _||_, not}
 use mathlib.Core.List.{List, [], _∷_}
 use lib.Dec.{eqb}
@@ -31,3 +31,13 @@ unread s n = drop (n + cond (eqb (getD s n 0) COMMA) 1 2) s
 unfoldable pub inner : List ℕ → List ℕ
 inner [] = []
 inner (b ∷ s) = cond (eqb b DQUOTE) (take (length s - 1) s) (b ∷ s)
+
+-- the first k fields of some bytes, without the quotes around them
+unfoldable pub texts : ℕ → List ℕ → List (List ℕ)
+texts zero s = []
+texts (suc k) s = inner (take (extent false s) s) ∷ texts k (unread s (extent false s))
+
+-- what is left unread behind k fields
+unfoldable pub passed : ℕ → List ℕ → List ℕ
+passed zero s = s
+passed (suc k) s = passed k (unread s (extent false s))

@@ -6,7 +6,7 @@ use mathlib.Core.Bool.{Bool, true, false, cond, _&&_}
 use mathlib.Core.List.{List, [], _∷_, map}
 use lib.Dec.{eqb}
 use lib.ListN.{length}
-use Rattle.base.specs.Search.{leading}
+use Rattle.base.specs.Search.{one, leading}
 use Rattle.csv.specs.Grammar.{COMMA}
 use Rattle.csv.specs.Reading.{State, begin, plain, quoted, closing, ended, broken, next, final, rfc4180, records}
 use Rattle.csv.specs.declared.scanning.Shape.{Shape}
@@ -30,9 +30,6 @@ pub record Tally : Type 0 where
   pub records : ℕ
   -- records that have ended, up to the first whose number of fields is another than asked
   pub fitting : ℕ
-
-abbrev pub one : Bool → ℕ
-one t = cond t 1 0
 
 -- at the start of a file a record is begun
 unfoldable pub start : Tally

@@ -3,8 +3,9 @@ ghost use mathlib.Core.Path.{_≡_};
 ghost use mathlib.Core.Bool.{_&&_};
 ghost use Prim.Native.Nat.{_≤_, _^_, max};
 ghost use lib.Dec.{eqb};
+ghost use Rattle.base.specs.Search.{one};
 ghost use Rattle.csv.specs.Reading.{begin, plain, quoted, closing, ended, final, afterField, next as Reading·next, textdata as Reading·textdata};
-ghost use Rattle.csv.specs.Scan.{scanned, state, kept, one, separates, atEnd, answer, step as Scan·step, over as Scan·over, finished as Scan·finished, Small};
+ghost use Rattle.csv.specs.Scan.{scanned, state, kept, separates, atEnd, answer, step as Scan·step, over as Scan·over, finished as Scan·finished, Small};
 
 const LF: u8 = 0x0A;
 

@@ -80,11 +80,11 @@ module _ (least most : ℕ) where
 
 -- one more digit is written, at the place in front of those that are
 pub written-digit :
-    (out text : List ℕ) (at last rest : ℕ) →
-    at < length out → last ≡ at + 1 → 10 ≤ rest → before rest (drop last out) ≡ text →
-    before (rest / 10) (drop at (set out at (ZERO + rest % 10))) ≡ text
-written-digit out text at last rest h p k e =
-    rw drop-set (sym (before-more rest (drop (at + 1) out) k) ∙ (rw p at e))
+    (out text : List ℕ) (at last rest b next : ℕ) →
+    at < length out → last ≡ at + 1 → 10 ≤ rest → b ≡ ZERO + rest % 10 → next ≡ rest / 10 →
+    before rest (drop last out) ≡ text → before next (drop at (set out at b)) ≡ text
+written-digit out text at last rest b next h p k q r e =
+    rw (r, drop-set, q) (sym (before-more rest (drop (at + 1) out) k) ∙ (rw p at e))
 
 -- the first digit is written last
 pub written-first :

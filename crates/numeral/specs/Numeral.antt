@@ -56,7 +56,7 @@ number (b ∷ s) =
     let read = digitsFrom 0 (b ∷ s) in
     cond (leadingZero (b ∷ s)) none read
 
--- a number that is from least to most
+-- the number, if it is from least to most
 unfoldable pub within : ℕ → ℕ → Option ℕ → Option ℕ
 within least most none = none
 within least most (some n) = cond (leb least n && leb n most) (some n) none

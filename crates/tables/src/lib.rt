@@ -28,4 +28,5 @@ pub fn kept(f: File) -> File
 {
     f
 }
+
 ghost use mathlib.Core.Path.{_≡_};

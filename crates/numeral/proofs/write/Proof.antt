@@ -52,7 +52,8 @@ loop-again c =
       omega arith,
       simp length-set (omega arith),
       simp length-set (omega arith),
-      written-digit (l .out) _ (l .at - 1) (l .at) (l .rest) (omega arith) (omega arith) (omega arith) text,
+      written-digit (l .out) _ (l .at - 1) (l .at) (l .rest) _ _ (omega arith) (omega arith) (omega arith)
+          (omega arith) (omega arith) text,
     )
 
 cast-out-2 : tie.Need-cast-out-2 Inv-loop μ-loop

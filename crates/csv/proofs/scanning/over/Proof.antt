@@ -2,7 +2,7 @@
 use native.Mathlib.Omega.{arith}
 use mathlib.Core.Bool.{_&&_}
 use lib.Dec.{eqb}
-use Rattle.csv.proofs.Tallies.{one-le}
+use Rattle.base.proofs.Searches.{one-le}
 use Rattle.csv.specs.Scan.{kept, over}
 use borrow.Author.Needs.{needs}
 use Rattle.csv.proofs.scanning.over.Statement.{statement}

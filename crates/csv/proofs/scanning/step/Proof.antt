@@ -1,6 +1,6 @@
 -- One byte more. Assumes nothing.
 use native.Mathlib.Omega.{arith}
-use Rattle.csv.proofs.Tallies.{one-le}
+use Rattle.base.proofs.Searches.{one-le}
 use Rattle.csv.specs.Scan.{kept, state, separates, step, within}
 use borrow.Author.Needs.{needs}
 use Rattle.csv.proofs.scanning.step.Statement.{statement}

@@ -1,9 +1,13 @@
 -- Laws on lists beside the kit's: a list from a place on, and what lending a part of a slice makes of it. Assumes nothing.
-use Prim.Native.Nat.{ℕ, suc, _+_, _-_, _≤_, _<_}
+use Prim.Native.Nat.{ℕ, zero, suc, _+_, _-_, _≤_, _<_, zero-le}
 use mathlib.Core.Path.{_≡_, refl, sym, _∙_, ap}
+use mathlib.Core.Bool.{Bool, true, _&&_}
 use mathlib.Core.List.{List, [], _∷_, _++_, append-nil}
 use native.Mathlib.Numerals.{add-one}
 use native.Mathlib.Omega.{arith}
+use lib.Dec.{leb}
+use borrow.Author.Tests.{leb-true}
+use Rattle.base.proofs.Tests.{and-fst, and-snd}
 use lib.ListN.{length, getD, take, drop, length-drop, length-append, drop-of-length-le, set}
 use lib.Seq.{drop-cons, take-all, drop-drop, getD-set-same, drop-set-lt, lt-length-set}
 
@@ -30,3 +34,14 @@ module _ {A : Type 0} where
       let k : i < length (set s i a) = lt-length-set s i a h in
       let j : i < i + 1 = omega arith in
       rw (drop-next a i (set s i a), getD-set-same, drop-set-lt)
+
+-- a bound of every element, by one test that computes over the whole list
+unfoldable pub allAtMost : ℕ → List ℕ → Bool
+allAtMost k [] = true
+allAtMost k (x ∷ xs) = leb x k && allAtMost k xs
+
+pub at-most : (k : ℕ) (l : List ℕ) → allAtMost k l ≡ true → (i : ℕ) → getD l i 0 ≤ k
+unfolding allAtMost
+at-most k [] e i = zero-le
+at-most k (x ∷ xs) e zero = leb-true x k (and-fst (leb x k) (allAtMost k xs) e)
+at-most k (x ∷ xs) e (suc i) = at-most k xs (and-snd (leb x k) (allAtMost k xs) e) i

@@ -41,3 +41,8 @@ texts (suc k) s = inner (take (extent false s) s) ∷ texts k (unread s (extent 
 unfoldable pub passed : ℕ → List ℕ → List ℕ
 passed zero s = s
 passed (suc k) s = passed k (unread s (extent false s))
+
+-- the first k records of some bytes, of n fields each
+unfoldable pub recordTexts : ℕ → ℕ → List ℕ → List (List (List ℕ))
+recordTexts n zero s = []
+recordTexts n (suc k) s = texts n s ∷ recordTexts n k (passed n s)

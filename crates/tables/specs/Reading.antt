@@ -11,10 +11,10 @@ use Rattle.base.specs.Text.{same}
 use Rattle.csv.specs.Reading.{rfc4180, records}
 use Rattle.tables.specs.Table.{Column, table, header, width}
 use Rattle.tables.specs.Values.{cells, wellFormed}
-use Rattle.tables.specs.declared.File.{File}
-use Rattle.tables.specs.declared.Refusal.{Refusal}
-use Rattle.tables.specs.declared.Reading.{Reading}
-use Rattle.tables.specs.declared.Reading.the-variants.{Rows, Refused}
+use Rattle.tables.specs.declared.files.File.{File}
+use Rattle.tables.specs.declared.files.Refusal.{Refusal}
+use Rattle.tables.specs.declared.files.Reading.{Reading}
+use Rattle.tables.specs.declared.files.Reading.the-variants.{Rows, Refused}
 
 -- refusal n of a file at a place
 abbrev pub refused : ℕ → File → ℕ → Refusal

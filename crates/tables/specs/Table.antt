@@ -3,10 +3,10 @@
 use Prim.Native.Nat.{ℕ}
 use Prim.Native.String.{String}
 use mathlib.Core.List.{List, [], _∷_, _++_, map}
-use lib.ListN.{length}
+use lib.ListN.{length, getD}
 use Rattle.base.specs.Text.{bytes}
-use Rattle.tables.specs.declared.File.{File}
-use Rattle.tables.specs.declared.File.the-variants.{Constraint, Supply, Schedules}
+use Rattle.tables.specs.declared.files.File.{File}
+use Rattle.tables.specs.declared.files.File.the-variants.{Constraint, Supply, Schedules}
 
 -- what a field may hold
 pub data Form : Type 0 where
@@ -67,7 +67,7 @@ schedulesColumns =
     ∷ column "minrun" numeral 1 24  -- hours
     ∷ []
 
-unfoldable pub table : File → Table
+abbrev pub table : File → Table
 table Constraint = record { number = 1; columns = constraintColumns; fewestRows = 1; mostRows = 1 }
 table Supply = record { number = 2; columns = supplyColumns; fewestRows = 0; mostRows = 256 }
 table Schedules = record { number = 3; columns = schedulesColumns; fewestRows = 0; mostRows = 1024 }
@@ -75,6 +75,15 @@ table Schedules = record { number = 3; columns = schedulesColumns; fewestRows = 
 -- the columns of all files, one behind the other, as the code's tables have them
 unfoldable pub allColumns : List Column
 allColumns = constraintColumns ++ supplyColumns ++ schedulesColumns
+
+-- where those of a file begin
+abbrev pub firstColumn : File → ℕ
+firstColumn Constraint = 0
+firstColumn Supply = 3
+firstColumn Schedules = 8
+
+unfoldable pub columnAt : ℕ → Column
+columnAt i = getD allColumns i (column "" numeral 0 0)
 
 unfoldable pub header : File → List (List ℕ)
 header f = map (λ (c : Column). c .name) (table f .columns)

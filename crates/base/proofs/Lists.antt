@@ -1,13 +1,14 @@
 -- Laws on lists beside the kit's: a list from a place on, and what lending a part of a slice makes of it. Assumes nothing.
 use Prim.Native.Nat.{ℕ, zero, suc, _+_, _-_, _≤_, _<_, zero-le}
 use mathlib.Core.Path.{_≡_, refl, sym, _∙_, ap}
+use mathlib.Core.Logic.{⊎-elim}
 use mathlib.Core.Bool.{Bool, true, _&&_}
 use mathlib.Core.List.{List, [], _∷_, _++_, append-nil}
 use native.Mathlib.Numerals.{add-one}
 use native.Mathlib.Omega.{arith}
 use lib.Dec.{leb}
 use borrow.Author.Tests.{leb-true}
-use Rattle.base.proofs.Tests.{and-fst, and-snd}
+use Rattle.base.proofs.Tests.{and-fst, and-snd, lt-or-ge}
 use lib.ListN.{length, getD, take, drop, length-drop, length-append, drop-of-length-le, set}
 use lib.Seq.{drop-cons, take-all, drop-drop, getD-set-same, drop-set-lt, lt-length-set}
 
@@ -45,3 +46,15 @@ unfolding allAtMost
 at-most k [] e i = zero-le
 at-most k (x ∷ xs) e zero = leb-true x k (and-fst (leb x k) (allAtMost k xs) e)
 at-most k (x ∷ xs) e (suc i) = at-most k xs (and-snd (leb x k) (allAtMost k xs) e) i
+
+-- a rest of a list is found again by its length
+pub drop-back : {A : Type 0} (i : ℕ) (s : List A) → drop (length s - length (drop i s)) s ≡ drop i s
+drop-back i s = ⊎-elim inside past (lt-or-ge i (length s))
+  where
+    inside : i < length s → drop (length s - length (drop i s)) s ≡ drop i s
+    inside h =
+        let back : length s - length (drop i s) ≡ i = omega (arith, length-drop i s) in
+        rw back
+
+    past : length s ≤ i → drop (length s - length (drop i s)) s ≡ drop i s
+    past h = drop-end (length s - length (drop i s)) s (omega (arith, length-drop i s)) ∙ sym (drop-end i s h)

@@ -7,7 +7,7 @@ use native.Mathlib.Omega.{arith}
 use lib.Dec.{eqb}
 use lib.ListN.{length, getD, take, drop}
 use borrow.Author.Tests.{eq-eqb, ne-eqb}
-use Rattle.base.proofs.Lists.{drop-next, drop-end, rest-lent}
+use Rattle.base.proofs.Lists.{drop-next, drop-end}
 use Rattle.csv.specs.Grammar.{COMMA, DQUOTE}
 use Rattle.csv.specs.Fields.{turned, separates, extent, unread, inner}
 
@@ -35,24 +35,24 @@ module _ (s : List ℕ) (n : ℕ) where
   none-left true h = drop-end (n + 1) s (omega arith)
   none-left false h = drop-end (n + 2) s (omega arith)
 
-  pub unread-end : length s ≤ n → take (length s - length s) (drop (length s) s) ≡ unread s n
+  pub unread-end : length s ≤ n → drop (length s) s ≡ unread s n
   unfolding unread skipped
   unread-end h =
-      rest-lent (length s) s ∙ drop-end (length s) s (omega arith) ∙ sym (none-left (eqb (getD s n 0) COMMA) h)
+      drop-end (length s) s (omega arith) ∙ sym (none-left (eqb (getD s n 0) COMMA) h)
 
-  pub unread-comma : getD s n 0 ≡ COMMA → take (length s - (n + 1)) (drop (n + 1) s) ≡ unread s n
+  pub unread-comma : getD s n 0 ≡ COMMA → drop (n + 1) s ≡ unread s n
   unfolding unread
-  unread-comma e = rest-lent (n + 1) s ∙ simp (eq-eqb _ _ e)
+  unread-comma e = simp (eq-eqb _ _ e)
 
   pub unread-short :
-      length s ≤ n + 2 → (getD s n 0 ≡ COMMA → ⊥) → take (length s - length s) (drop (length s) s) ≡ unread s n
+      length s ≤ n + 2 → (getD s n 0 ≡ COMMA → ⊥) → drop (length s) s ≡ unread s n
   unfolding unread
   unread-short h e =
-      rest-lent (length s) s ∙ drop-end (length s) s (omega arith) ∙ sym (simp (ne-eqb _ _ e) (drop-end (n + 2) s h))
+      drop-end (length s) s (omega arith) ∙ sym (simp (ne-eqb _ _ e) (drop-end (n + 2) s h))
 
-  pub unread-crlf : (getD s n 0 ≡ COMMA → ⊥) → take (length s - (n + 2)) (drop (n + 2) s) ≡ unread s n
+  pub unread-crlf : (getD s n 0 ≡ COMMA → ⊥) → drop (n + 2) s ≡ unread s n
   unfolding unread
-  unread-crlf e = rest-lent (n + 2) s ∙ simp (ne-eqb _ _ e)
+  unread-crlf e = simp (ne-eqb _ _ e)
 
 pub inner-none : (t : List ℕ) → length t ≡ 0 → t ≡ inner t
 unfolding inner

@@ -1,9 +1,9 @@
 // Fields as parts of a file that begin where the field begins, a quoted one at its opening quote.
 ghost use mathlib.Core.Path.{_≡_};
 ghost use mathlib.Core.Bool.{false};
-ghost use lib.ListN.{length};
+ghost use lib.ListN.{length, drop};
 ghost use Prim.Native.Nat.{_≤_};
-ghost use Rattle.csv.specs.Fields.{extent, unread as Fields·unread, inner as Fields·inner, turned as Fields·turned, separates as Fields·separates};
+ghost use Rattle.csv.specs.Fields.{extent, unread, inner as Fields·inner, turned as Fields·turned, separates as Fields·separates};
 
 const CR: u8 = 0x0D;
 
@@ -28,22 +28,23 @@ pub fn field_length(s: &[u8]) -> usize
     i
 }
 
-// What is left unread behind a field of `n` bytes at the start of `s`, and behind its COMMA or
-// CR LF.
-pub fn unread(s: &[u8], n: usize) -> &[u8]
-    ensures { λ r. ⌜ now r ≡ Fields·unread (now (s .entry)) n ⌝ }
+// Where what is left unread begins, behind a field of `n` bytes at the start of `s` and behind its
+// COMMA or CR LF.
+pub fn after_field(s: &[u8], n: usize) -> usize
+    ensures { λ r. ⌜ drop r (now (s .entry)) ≡ unread (now (s .entry)) n ⌝ }
+    ensures { λ r. ⌜ r ≤ length (now (s .entry)) ⌝ }
 {
     let end = s.len();
     if end <= n {
-        return &s[end..];
+        return end;
     }
     if s[n] == COMMA {
-        return &s[n + 1..];
+        return n + 1;
     }
     if end <= n + 2 {
-        return &s[end..];
+        return end;
     }
-    &s[n + 2..]
+    n + 2
 }
 
 // The text of a field without the quotes around it.

@@ -4,8 +4,8 @@
 mod fields;
 mod scanning;
 
+pub use fields::after_field;
 pub use fields::field_length;
 pub use fields::inner;
-pub use fields::unread;
 pub use scanning::Shape;
 pub use scanning::scan;

@@ -1,3 +1,4 @@
+pub mod Laying
 pub mod Reading
 pub mod Table
 pub mod Values

@@ -2,7 +2,7 @@
 -- 1, 2, 4 and 3, in this order and each over the whole file. Assumes nothing.
 use Prim.Native.Nat.{ℕ}
 use mathlib.Core.Bool.{Bool, true, false, cond, not, _&&_}
-use mathlib.Core.List.{List, [], _∷_, _++_, map, flatten}
+use mathlib.Core.List.{List, [], _∷_, _++_}
 use mathlib.Core.Option.{Option, none, some, Option·map}
 use lib.Dec.{eqb, leb}
 use lib.ListN.{length, drop}
@@ -10,7 +10,7 @@ use Rattle.base.specs.Search.{first, firstOf}
 use Rattle.base.specs.Text.{same}
 use Rattle.csv.specs.Reading.{rfc4180, records}
 use Rattle.tables.specs.Table.{Column, table, header, width}
-use Rattle.tables.specs.Values.{cells, wellFormed}
+use Rattle.tables.specs.Values.{allCells, wellFormed}
 use Rattle.tables.specs.declared.files.File.{File}
 use Rattle.tables.specs.declared.files.Refusal.{Refusal}
 use Rattle.tables.specs.declared.files.Reading.{Reading}
@@ -63,10 +63,6 @@ misshapen f s =
 unfoldable pub refusal : File → List ℕ → Option Refusal
 refusal f s = firstOf (misshapen f s ∷ Option·map (refused 3 f) (malformed f (rows s)) ∷ [])
 
--- the rows that a file has, as cells
-unfoldable pub table·rows : File → List ℕ → List (List ℕ)
-table·rows f s = map (cells (table f .columns)) (rows s)
-
 unfoldable pub reading : File → List ℕ → Reading
 reading f s = answer (refusal f s)
   where
@@ -79,5 +75,5 @@ unfoldable pub laid : File → List ℕ → List ℕ
 laid f s = lay (misshapen f s)
   where
     lay : Option Refusal → List ℕ
-    lay none = flatten (table·rows f s)
+    lay none = allCells (table f .columns) (rows s)
     lay (some r) = []

@@ -1,7 +1,7 @@
 -- Document 01, "Files": what a field's value is in its column, as the number that a cell holds. Assumes nothing.
 use Prim.Native.Nat.{ℕ, _+_, _-_}
 use mathlib.Core.Bool.{Bool, true, false, cond, _&&_}
-use mathlib.Core.List.{List, [], _∷_}
+use mathlib.Core.List.{List, [], _∷_, _++_}
 use mathlib.Core.Option.{Option, none, some, Option·map, Option·getD}
 use lib.Dec.{eqb}
 use Rattle.base.specs.Text.{same}
@@ -48,3 +48,8 @@ unfoldable pub wellFormed : List Column → List (List ℕ) → Bool
 wellFormed [] vs = true
 wellFormed (c ∷ cs) [] = true
 wellFormed (c ∷ cs) (v ∷ vs) = isSome (value c v) && wellFormed cs vs
+
+-- the cells of several rows, one row behind the other
+unfoldable pub allCells : List Column → List (List (List ℕ)) → List ℕ
+allCells cs [] = []
+allCells cs (r ∷ rs) = cells cs r ++ allCells cs rs

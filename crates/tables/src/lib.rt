@@ -2,6 +2,7 @@
 // the first refusal. Assumes nothing of the bytes.
 mod columns;
 mod files;
+mod rows;
 
 pub use files::File;
 pub use files::Kind;

@@ -1,2 +1,3 @@
+pub mod AlikeValues
 pub mod ColumnLaws
 pub mod Forms

@@ -1,12 +1,13 @@
 -- Laws of searches. Assumes nothing.
 use Prim.Native.Nat.{ℕ, suc, _+_, _≤_}
-use mathlib.Core.Path.{_≡_, refl}
+use mathlib.Core.Path.{_≡_, refl, ap}
 use mathlib.Core.Logic.{⊎-elim}
-use mathlib.Core.Bool.{Bool, true, false, cond, _&&_}
+use mathlib.Core.Bool.{Bool, true, false, cond, _&&_, not}
 use mathlib.Core.List.{List, [], _∷_}
 use mathlib.Core.Option.{Option, none, some}
 use native.Mathlib.Omega.{arith}
-use lib.Dec.{eqb}
+use lib.Dec.{eqb, eqb·zero-suc, eqb·suc-suc}
+use lib.ListN.{length}
 use borrow.Author.Tests.{eq-eqb, ne-eqb}
 use Rattle.base.specs.Search.{one, first, leading}
 use Rattle.base.proofs.Tests.{either, eq-or-ne}
@@ -24,6 +25,39 @@ module _ {A : Type 0} (p : A → Bool) where
   pub first-later : (k : ℕ) (x : A) (xs : List A) → p x ≡ false → first p k (x ∷ xs) ≡ first p (suc k) xs
   unfolding first
   first-later k x xs e = simp e
+
+-- how many elements pass, and the first that doesn't
+module _ {A : Type 0} (p : A → Bool) where
+  pub leading-le : (xs : List A) → leading p xs ≤ length xs
+  unfolding leading
+  leading-le [] = omega arith
+  leading-le (x ∷ xs) = go (p x) (leading-le xs)
+    where
+      go : (t : Bool) → leading p xs ≤ length xs → cond t (suc (leading p xs)) 0 ≤ suc (length xs)
+      go true h = omega arith
+      go false h = omega arith
+
+  pub first-leading :
+      (k : ℕ) (xs : List A) →
+      first (λ (x : A). not (p x)) k xs ≡ cond (eqb (leading p xs) (length xs)) none (some (k + leading p xs))
+  unfolding first leading
+  first-leading k [] = refl
+  first-leading k (x ∷ xs) = go (p x) (first-leading (suc k) xs)
+    where
+      later : Option ℕ
+      later = first (λ (x : A). not (p x)) (suc k) xs
+
+      more : ℕ
+      more = leading p xs
+
+      go :
+          (t : Bool) → later ≡ cond (eqb more (length xs)) none (some (suc k + more)) →
+          cond (not t) (some k) later
+          ≡ cond (eqb (cond t (suc more) 0) (suc (length xs))) none (some (k + cond t (suc more) 0))
+      go true ih =
+          let place : k + suc more ≡ suc k + more = omega arith in
+          rw (eqb·suc-suc, place) ih
+      go false ih = rw eqb·zero-suc (ap some (omega arith))
 
 pub one-le : (t : Bool) → one t ≤ 1
 one-le true = omega arith

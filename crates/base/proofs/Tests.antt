@@ -1,11 +1,13 @@
 -- Tests and the facts behind them. Assumes nothing.
 use Prim.Native.Nat.{ℕ, _≤_, _<_}
-use mathlib.Core.Path.{_≡_, refl}
+use mathlib.Core.Path.{_≡_, refl, ap₂}
 use mathlib.Core.Logic.{_⊎_, inl, inr}
 use mathlib.Core.Bool.{Bool, true, false, cond, _&&_, _||_, not}
+use mathlib.Core.List.{List, [], _∷_}
 use native.Mathlib.Omega.{arith}
 use lib.Dec.{ltb, leb, eqb}
-use borrow.Author.Tests.{ltb-true, ltb-false, eqb-true, eqb-false}
+use borrow.Author.Tests.{ltb-true, ltb-false, eqb-true, eqb-false, eq-eqb}
+use Rattle.base.specs.Text.{same}
 
 -- a test passes or fails
 pub either : (t : Bool) → (t ≡ true) ⊎ (t ≡ false)
@@ -36,3 +38,17 @@ and-fst false b e = e
 pub and-snd : (a b : Bool) → (a && b) ≡ true → b ≡ true
 and-snd true b e = e
 and-snd false b e = false-true e
+
+-- two texts are the same
+pub same-refl : (s : List ℕ) → same s s ≡ true
+unfolding same
+same-refl [] = refl
+same-refl (b ∷ s) = simp (eq-eqb b b refl, same-refl s)
+
+pub same-eq : (s t : List ℕ) → same s t ≡ true → s ≡ t
+unfolding same
+same-eq [] [] e = refl
+same-eq [] (c ∷ t) e = false-true e
+same-eq (b ∷ s) [] e = false-true e
+same-eq (b ∷ s) (c ∷ t) e =
+    ap₂ _∷_ (eqb-true b c (and-fst (eqb b c) (same s t) e)) (same-eq s t (and-snd (eqb b c) (same s t) e))

@@ -4,4 +4,5 @@ pub mod Parts
 pub mod Scanned
 pub mod Steps
 pub mod Tallies
+pub mod Texts
 pub mod Walk

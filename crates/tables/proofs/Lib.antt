@@ -1,3 +1,4 @@
+pub mod AlikeValues
 pub mod ColumnLaws
 pub mod Forms
 pub mod RowLaws

@@ -76,11 +76,11 @@ left-less : (n c : ℕ) → c < n → n - c ≡ suc (n - (c + 1))
 left-less n c h = omega arith
 
 module _ (n c : ℕ) (h : c < n) (s : List ℕ) where
-  texts-next : texts (n - c) s ≡ inner (take (extent false s) s) ∷ texts (n - (c + 1)) (unread s (extent false s))
+  pub texts-next : texts (n - c) s ≡ inner (take (extent false s) s) ∷ texts (n - (c + 1)) (unread s (extent false s))
   unfolding texts
   texts-next = rw (left-less n c h)
 
-  passed-next : passed (n - c) s ≡ passed (n - (c + 1)) (unread s (extent false s))
+  pub passed-next : passed (n - c) s ≡ passed (n - (c + 1)) (unread s (extent false s))
   unfolding passed
   passed-next = rw (left-less n c h)
 

@@ -1,4 +1,5 @@
 pub mod Laying
 pub mod Reading
+pub mod Rows
 pub mod Table
 pub mod Values

@@ -2,9 +2,12 @@
 // the first refusal. Assumes nothing of the bytes.
 mod columns;
 mod files;
+mod headers;
+mod reading;
 mod rows;
 
 pub use files::File;
 pub use files::Kind;
 pub use files::Reading;
 pub use files::Refusal;
+pub use reading::read;

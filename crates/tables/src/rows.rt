@@ -84,7 +84,7 @@ fn lay_row(file: File, s: &[u8], out: &mut [u64]) -> Row
     }
 }
 
-fn both(a: bool, b: bool) -> bool
+pub fn both(a: bool, b: bool) -> bool
     ensures { λ r. ⌜ r ≡ (a && b) ⌝ }
 {
     if a { b } else { false }

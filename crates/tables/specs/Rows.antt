@@ -1,0 +1,83 @@
+-- The rows of the three files by the names of their columns, as cells hold them: dfax in excess of 10000, so that -10000
+-- is 0, and a kind as its letter. And rows out of a flat run of cells, one row behind the other. Assumes nothing.
+use Prim.Native.Nat.{ℕ, zero, suc, _+_, _-_}
+use mathlib.Core.Bool.{cond}
+use mathlib.Core.List.{List, [], _∷_, map}
+use lib.Dec.{eqb}
+use lib.ListN.{getD, take, drop}
+use Rattle.tables.specs.Table.{M, C}
+use Rattle.tables.specs.declared.files.Kind.{Kind}
+use Rattle.tables.specs.declared.files.Kind.the-variants.{M as KindM, C as KindC}
+
+pub record ConstraintRow : Type 0 where
+  pub hour : ℕ
+  pub relief : ℕ
+  pub cutoff : ℕ
+
+pub record SupplyRow : Type 0 where
+  pub unit : ℕ
+  pub supplier : ℕ
+  pub mw : ℕ
+  pub cost : ℕ
+  pub dfax : ℕ
+
+pub record ScheduleRow : Type 0 where
+  pub unit : ℕ
+  pub schedule : ℕ
+  pub kind : ℕ
+  pub hour : ℕ
+  pub ecomin : ℕ
+  pub price : ℕ
+  pub noload : ℕ
+  pub startup : ℕ
+  pub minrun : ℕ
+
+abbrev pub constraintRow : List ℕ → ConstraintRow
+constraintRow cs = record { hour = getD cs 0 0; relief = getD cs 1 0; cutoff = getD cs 2 0 }
+
+abbrev pub supplyRow : List ℕ → SupplyRow
+supplyRow cs =
+    record {
+      unit = getD cs 0 0;
+      supplier = getD cs 1 0;
+      mw = getD cs 2 0;
+      cost = getD cs 3 0;
+      dfax = getD cs 4 0;
+    }
+
+abbrev pub scheduleRow : List ℕ → ScheduleRow
+scheduleRow cs =
+    record {
+      unit = getD cs 0 0;
+      schedule = getD cs 1 0;
+      kind = getD cs 2 0;
+      hour = getD cs 3 0;
+      ecomin = getD cs 4 0;
+      price = getD cs 5 0;
+      noload = getD cs 6 0;
+      startup = getD cs 7 0;
+      minrun = getD cs 8 0;
+    }
+
+-- the first n rows of w cells each
+unfoldable pub rowsOf : ℕ → ℕ → List ℕ → List (List ℕ)
+rowsOf w zero cs = []
+rowsOf w (suc n) cs = take w cs ∷ rowsOf w n (drop w cs)
+
+unfoldable pub supplyRows : ℕ → List ℕ → List SupplyRow
+supplyRows n cs = map supplyRow (rowsOf 5 n cs)
+
+unfoldable pub scheduleRows : ℕ → List ℕ → List ScheduleRow
+scheduleRows n cs = map scheduleRow (rowsOf 9 n cs)
+
+-- |dfax| of a cell
+unfoldable pub size : ℕ → ℕ
+size d = (d - 10000) + (10000 - d)
+
+-- the kind of a cell, and the cell of a kind
+unfoldable pub kindOf : ℕ → Kind
+kindOf b = cond (eqb b M) KindM KindC
+
+abbrev pub letterOf : Kind → ℕ
+letterOf KindM = M
+letterOf KindC = C

@@ -1,6 +1,6 @@
 -- Tests and the facts behind them. Assumes nothing.
 use Prim.Native.Nat.{ℕ, _≤_, _<_}
-use mathlib.Core.Path.{_≡_, refl}
+use mathlib.Core.Path.{_≡_, refl, sym}
 use mathlib.Core.Logic.{_⊎_, inl, inr}
 use mathlib.Core.Bool.{Bool, true, false, cond, _&&_, _||_, not}
 use native.Mathlib.Omega.{arith}
@@ -36,3 +36,11 @@ and-fst false b e = e
 pub and-snd : (a b : Bool) → (a && b) ≡ true → b ≡ true
 and-snd true b e = e
 and-snd false b e = false-true e
+
+pub or-fst : (a b : Bool) → (a || b) ≡ false → a ≡ false
+or-fst true b e = e
+or-fst false b e = refl
+
+pub or-snd : (a b : Bool) → (a || b) ≡ false → b ≡ false
+or-snd true b e = false-true (sym e)
+or-snd false b e = e

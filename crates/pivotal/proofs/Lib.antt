@@ -1,0 +1,3 @@
+pub mod Amounts
+pub mod Limits
+pub mod Passes

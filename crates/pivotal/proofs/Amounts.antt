@@ -4,10 +4,12 @@ use mathlib.Core.Path.{_≡_, refl, sym, _∙_, ap}
 use mathlib.Core.Logic.{_≢_, _⊎_, inl, inr, ⊎-elim}
 use mathlib.Core.Bool.{Bool, true, false, cond}
 use mathlib.Core.List.{List, [], _∷_}
+use native.Mathlib.Nat.{add-comm}
 use native.Mathlib.Omega.{arith}
 use lib.Dec.{ltb}
 use lib.ListN.{length, getD, set, drop, List·getD-eq-default}
 use lib.Seq.{getD-set-other}
+use borrow.Author.Needs.{needs}
 use borrow.Author.Tests.{ltb-true, ltb-false}
 use Rattle.base.proofs.Lists.{drop-next, drop-end}
 use Rattle.pivotal.specs.Test.{total, Largest, begun, fed, fedAll}
@@ -94,39 +96,9 @@ feeds : (l : Largest) (a : ℕ) → l .second ≤ l .first → Feeds l a (fed l 
 unfolding both
 feeds l a o =
     fed-cases l a (Feeds l a)
-    (λ h.
-      record {
-        ordered = omega arith;
-        kept = omega arith;
-        reached = omega arith;
-        as-much = omega arith;
-        with-it = omega arith;
-        no-more = omega arith;
-        first-from = inr refl;
-        both-from = inr (omega arith);
-      })
-    (λ h k.
-      record {
-        ordered = omega arith;
-        kept = omega arith;
-        reached = omega arith;
-        as-much = omega arith;
-        with-it = omega arith;
-        no-more = omega arith;
-        first-from = inl refl;
-        both-from = inr refl;
-      })
-    (λ h k.
-      record {
-        ordered = omega arith;
-        kept = omega arith;
-        reached = omega arith;
-        as-much = omega arith;
-        with-it = omega arith;
-        no-more = omega arith;
-        first-from = inl refl;
-        both-from = inl refl;
-      })
+    (λ h. search (needs, inr, add-comm))
+    (λ h k. search (needs, inl, inr))
+    (λ h k. search (needs, inl))
 
 -- no two of the amounts are more than the two largest together, nor is one beside an earlier first
 record Tops (l : Largest) (s : List ℕ) (n : ℕ) : Type 0 where

@@ -1,3 +1,4 @@
 pub mod Amounts
+pub mod Least
 pub mod Limits
 pub mod Passes

@@ -22,12 +22,18 @@ pub data Distinct : List ℕ → Type 0 where
 unfoldable pub without : (ℕ → ℕ) → ℕ → ℕ → ℕ
 without f k j = cond (eqb j k) 0 (f j)
 
--- whether the supplier k is among those that are gone
+-- whether the supplier k is among the suppliers js
 unfoldable pub among : ℕ → List ℕ → Bool
 among k [] = false
-among k (j ∷ gone) = eqb k j || among k gone
+among k (j ∷ js) = eqb k j || among k js
 
--- the suppliers that are not gone
+-- the suppliers ks but for those among js
 unfoldable pub staying : List ℕ → List ℕ → List ℕ
-staying gone [] = []
-staying gone (k ∷ ks) = cond (among k gone) (staying gone ks) (k ∷ staying gone ks)
+staying js [] = []
+staying js (k ∷ ks) = cond (among k js) (staying js ks) (k ∷ staying js ks)
+
+-- the suppliers that a removal takes away, where the places are those of the suppliers ks
+unfoldable pub gone : {s : List ℕ} {p : ℕ} → List ℕ → Removal s p → List ℕ
+gone {s} {p} ks alone = getD ks p 0 ∷ []
+gone {s} {p} ks (with-one q _ _) = getD ks p 0 ∷ getD ks q 0 ∷ []
+gone {s} {p} ks (with-two q r _ _ _ _ _) = getD ks p 0 ∷ getD ks q 0 ∷ getD ks r 0 ∷ []

@@ -1,5 +1,5 @@
 -- Laws of totals, of amounts taken away and of the two largest amounts. Assumes nothing.
-use Prim.Native.Nat.{ℕ, zero, suc, _+_, _-_, _≤_, _<_}
+use Prim.Native.Nat.{ℕ, zero, suc, _+_, _≤_, _<_}
 use mathlib.Core.Path.{_≡_, refl, sym, _∙_, ap}
 use mathlib.Core.Logic.{_≢_, _⊎_, inl, inr, ⊎-elim}
 use mathlib.Core.Bool.{Bool, true, false, cond}
@@ -181,7 +181,7 @@ module _ (s : List ℕ) where
   pub largest-places : (q : ℕ) × (r : ℕ) × (q ≢ r) × (largestTwo s ≡ getD s q 0 + getD s r 0)
   unfolding begun both largestTwo
   largest-places = elim (sources begun s (omega arith)) [
-      earlier e ↦ (length s, suc (length s), (λ z. absurd (omega arith)), omega (arith, past (length s) (omega arith), past (suc (length s)) (omega arith)))
+    | earlier e ↦ (length s, suc (length s), (λ z. absurd (omega arith)), omega (arith, past (length s) (omega arith), past (suc (length s)) (omega arith)))
     | one q e ↦ (q, suc (q + length s), (λ z. absurd (omega arith)), omega (arith, past (suc (q + length s)) (omega arith)))
     | two q r h e ↦ (q, r, h, e)
-    ]
+  ]

@@ -1,23 +1,24 @@
 -- Left is the least that a removal leaves, over amounts of any number and any place: some removal leaves just that, and
 -- none leaves less. So a supplier is pivotal exactly when some removal of it leaves less than the need. Assumes nothing.
 use Prim.Native.Nat.{ℕ, _+_, _-_, _≤_, _<_}
-use mathlib.Core.Path.{_≡_, refl, sym, _∙_}
-use mathlib.Core.Logic.{_≢_, _⊎_, inl, inr, ⊎-elim, _↔_}
+use mathlib.Core.Path.{_≡_, refl}
+use mathlib.Core.Logic.{_≢_, ⊎-elim, _↔_}
 use mathlib.Core.Bool.{true}
 use mathlib.Core.List.{List}
 use native.Mathlib.Omega.{arith}
 use lib.ListN.{length, getD, set, length-set, List·getD-eq-default}
 use borrow.Author.Tests.{ltb-true, lt-ltb}
 use Rattle.base.proofs.Tests.{lt-or-ge, eq-or-ne}
-use Rattle.pivotal.specs.Test.{total, fedAll, begun, left, pivotal}
+use Rattle.pivotal.specs.Test.{total, left, pivotal}
 use Rattle.pivotal.specs.Removal.{Removal, alone, with-one, with-two, leaves}
-use Rattle.pivotal.proofs.Amounts.{both, largestTwo, largest-one, largest-two, largest-within, largest-places, total-set, total-set-two, set-gone}
+use Rattle.pivotal.proofs.Amounts.{both, largestTwo, largest-one, largest-two, largest-places, total-set, total-set-two, set-gone}
 
 module _ (s : List ℕ) (p : ℕ) where
   left-takes : left s p ≡ total (set s p 0) - largestTwo (set s p 0)
   unfolding left largestTwo both
   left-takes = refl
 
+  -- no removal leaves less than left
   pub least : (r : Removal s p) → left s p ≤ leaves r
   unfolding leaves
   least alone = omega (arith, left-takes)
@@ -50,6 +51,7 @@ module _ (s : List ℕ) (p : ℕ) where
   removal q r h e (nothing z) (other a b) = (with-one r a b, omega (arith, left-takes, total-set (set s p 0) r))
   removal q r h e (nothing z) (nothing z′) = (alone, omega (arith, left-takes))
 
+  -- and some removal leaves just left
   pub attained : (x : Removal s p) × (leaves x ≡ left s p)
   attained =
       let (q, r, h, e) = largest-places (set s p 0) in
@@ -58,6 +60,7 @@ module _ (s : List ℕ) (p : ℕ) where
   -- a supplier is pivotal exactly when some removal of it leaves less than the need
   pub pivotal-exactly : (need : ℕ) → (pivotal (left s p) need ≡ true) ↔ ((x : Removal s p) × (leaves x < need))
   unfolding pivotal
-  pivotal-exactly need =
-      (λ e. (attained .0, omega (arith, attained .1, ltb-true (left s p) need e)),
-       λ x. lt-ltb (left s p) need (omega (arith, least (x .0), x .1)))
+  pivotal-exactly need = (
+    λ e. (attained .0, omega (arith, attained .1, ltb-true (left s p) need e)),
+    λ x. lt-ltb (left s p) need (omega (arith, least (x .0), x .1)),
+  )

@@ -21,21 +21,24 @@ unfolding begun largest
 passed-none s p = record { bounded = omega arith; totals = omega arith; largests = refl }
 
 -- the next amount, a
-module _ (s : List ℕ) (p i a : ℕ) (t : Tally) (limited : Limited s) (h : i < length s) (e : a ≡ getD (set s p 0) i 0) (passed : Passed s p i t) where
-  small : a ≤ mostAmount
-  small = omega (arith, set-below s p i, limited .small i)
+module _
+    (s : List ℕ) (p i a : ℕ) (t : Tally) (limited : Limited s)
+    (h : i < length s) (e : a ≡ getD (set s p 0) i 0) (passed : Passed s p i t)
+  where
+    small : a ≤ mostAmount
+    small = omega (arith, set-below s p i, limited .small i)
 
-  pub passed-fits : t .total + a < 2 ^ 64
-  passed-fits = omega (arith, small, passed .bounded, limited .few)
+    pub passed-fits : t .total + a < 2 ^ 64
+    passed-fits = omega (arith, small, passed .bounded, limited .few)
 
-  pub passed-more : (u : Tally) → u .total ≡ t .total + a → largest u ≡ fed (largest t) a → Passed s p (i + 1) u
-  passed-more u f g =
-      let k : i < length (set s p 0) = omega (arith, length-set s p 0) in
-      record {
-        bounded = omega (arith, small, passed .bounded);
-        totals = omega (arith, passed .totals, total-next (set s p 0) i k);
-        largests = rw (g, e) (passed .largests ∙ fedAll-next (set s p 0) i k (largest t));
-      }
+    pub passed-more : (u : Tally) → u .total ≡ t .total + a → largest u ≡ fed (largest t) a → Passed s p (i + 1) u
+    passed-more u f g =
+        let k : i < length (set s p 0) = omega (arith, length-set s p 0) in
+        record {
+          bounded = omega (arith, small, passed .bounded);
+          totals = omega (arith, passed .totals, total-next (set s p 0) i k);
+          largests = rw (g, e) (passed .largests ∙ fedAll-next (set s p 0) i k (largest t));
+        }
 
 module _ (s : List ℕ) (p i : ℕ) (t : Tally) (h : length s ≤ i) (passed : Passed s p i t) where
   all-passed : length (set s p 0) ≤ i

@@ -43,7 +43,7 @@ add-result : tie.Need-add-result Inv-loop μ-loop
 add-result c = omega (arith, passed-within _ _ _ _ (omega arith) (c .before .before .loop .inv .1))
 
 sub-result : tie.Need-sub-result Inv-loop μ-loop
-sub-result c = passed-within _ _ _ _ (omega arith) (c .before .before .before .loop .inv .1)
+sub-result c = omega (arith, passed-within _ _ _ _ (omega arith) (c .before .before .before .loop .inv .1))
 
 returns : tie.Need-returns Inv-loop μ-loop
 returns c = passed-left _ _ _ _ (omega arith) (c .before .before .before .loop .inv .1)

@@ -1,8 +1,7 @@
 -- The whole test: the refusals in their order, then left and the verdict. Assumes nothing.
-use mathlib.Core.Path.{_≡_, sym, _∙_}
-use mathlib.Core.Bool.{true, false}
+use mathlib.Core.Path.{sym, _∙_}
 use borrow.Author.Tests.{lt-ltb, le-ltb, le-leb, lt-leb}
-use Rattle.pivotal.specs.Test.{tooLarge, refused, tested}
+use Rattle.pivotal.specs.Test.{refused, tested}
 use Rattle.pivotal.proofs.Limits.{none-large}
 use borrow.Author.Needs.{needs}
 use Rattle.pivotal.proofs.test.Statement.{statement}

@@ -3,7 +3,7 @@ use Prim.Native.Nat.{_≤_, _-_}
 use mathlib.Core.Path.{_≡_, refl, sym, _∙_}
 use native.Mathlib.Omega.{arith}
 use borrow.Author.Needs.{needs}
-use lib.ListN.{length, getD, drop}
+use lib.ListN.{length, drop}
 use Rattle.pivotal.specs.Test.{tooLarge}
 use Rattle.pivotal.proofs.Limits.{large-here, large-later, large-end}
 use Rattle.pivotal.proofs.too_large.Statement.{statement}

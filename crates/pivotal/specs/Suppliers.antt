@@ -30,7 +30,9 @@ among k (j ∷ js) = eqb k j || among k js
 -- the suppliers ks but for those among js
 unfoldable pub staying : List ℕ → List ℕ → List ℕ
 staying js [] = []
-staying js (k ∷ ks) = cond (among k js) (staying js ks) (k ∷ staying js ks)
+staying js (k ∷ ks) =
+    let more = staying js ks in
+    cond (among k js) more (k ∷ more)
 
 -- the suppliers that a removal takes away, where the places are those of the suppliers ks
 unfoldable pub gone : {s : List ℕ} {p : ℕ} → List ℕ → Removal s p → List ℕ

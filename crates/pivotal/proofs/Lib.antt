@@ -1,0 +1,5 @@
+pub mod Amounts
+pub mod Least
+pub mod Limits
+pub mod Numbered
+pub mod Passes

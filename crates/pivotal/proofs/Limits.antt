@@ -1,0 +1,33 @@
+-- Laws of the limits on amounts: one for each step of the search for an amount that is too large, and what a search
+-- that finds none shows. Assumes nothing.
+use Prim.Native.Nat.{ℕ, zero, suc, _+_, _≤_, _<_}
+use mathlib.Core.Path.{_≡_}
+use mathlib.Core.Bool.{true, false}
+use mathlib.Core.List.{List, [], _∷_}
+use native.Mathlib.Omega.{arith}
+use lib.Dec.{ltb}
+use lib.ListN.{length, getD, drop}
+use borrow.Author.Tests.{lt-ltb, le-ltb, ltb-false}
+use Rattle.base.proofs.Lists.{drop-next, drop-end}
+use Rattle.base.proofs.Tests.{or-fst, or-snd}
+use Rattle.pivotal.specs.Test.{tooLarge, mostAmount}
+
+module _ (s : List ℕ) (i : ℕ) where
+  pub large-here : i < length s → mostAmount < getD s i 0 → tooLarge (drop i s) ≡ true
+  unfolding tooLarge
+  large-here h e = rw (drop-next 0 i s h, lt-ltb mostAmount (getD s i 0) e)
+
+  pub large-later : i < length s → getD s i 0 ≤ mostAmount → tooLarge (drop i s) ≡ tooLarge (drop (i + 1) s)
+  unfolding tooLarge
+  large-later h e = rw (drop-next 0 i s h, le-ltb mostAmount (getD s i 0) e)
+
+  pub large-end : length s ≤ i → tooLarge (drop i s) ≡ false
+  unfolding tooLarge
+  large-end h = rw (drop-end i s h)
+
+-- where no amount is too large, each is within the limit
+pub none-large : (s : List ℕ) → tooLarge s ≡ false → (i : ℕ) → getD s i 0 ≤ mostAmount
+unfolding tooLarge
+none-large [] e i = omega arith
+none-large (a ∷ s) e zero = ltb-false mostAmount a (or-fst (ltb mostAmount a) (tooLarge s) e)
+none-large (a ∷ s) e (suc i) = none-large s (or-snd (ltb mostAmount a) (tooLarge s) e) i

@@ -1,0 +1,4 @@
+pub mod Removal
+pub mod Suppliers
+pub mod Tally
+pub mod Test

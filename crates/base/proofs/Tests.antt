@@ -1,15 +1,11 @@
 -- Tests and the facts behind them. Assumes nothing.
 use Prim.Native.Nat.{ℕ, _≤_, _<_}
-<<<<<<< HEAD
-use mathlib.Core.Path.{_≡_, refl, ap₂}
-=======
-use mathlib.Core.Path.{_≡_, refl, sym}
->>>>>>> 8700cdab6979a1842439e7a98f86f9b108a68c0a
+use mathlib.Core.Path.{_≡_, refl, sym, ap₂}
 use mathlib.Core.Logic.{_⊎_, inl, inr}
-use mathlib.Core.Bool.{Bool, true, false, cond, _&&_, _||_, not}
+use mathlib.Core.Bool.{Bool, true, false, _&&_, _||_}
 use mathlib.Core.List.{List, [], _∷_}
 use native.Mathlib.Omega.{arith}
-use lib.Dec.{ltb, leb, eqb}
+use lib.Dec.{ltb, eqb}
 use borrow.Author.Tests.{ltb-true, ltb-false, eqb-true, eqb-false, eq-eqb}
 use Rattle.base.specs.Text.{same}
 
@@ -43,7 +39,6 @@ pub and-snd : (a b : Bool) → (a && b) ≡ true → b ≡ true
 and-snd true b e = e
 and-snd false b e = false-true e
 
-<<<<<<< HEAD
 -- two texts are the same
 pub same-refl : (s : List ℕ) → same s s ≡ true
 unfolding same
@@ -57,7 +52,7 @@ same-eq [] (c ∷ t) e = false-true e
 same-eq (b ∷ s) [] e = false-true e
 same-eq (b ∷ s) (c ∷ t) e =
     ap₂ _∷_ (eqb-true b c (and-fst (eqb b c) (same s t) e)) (same-eq s t (and-snd (eqb b c) (same s t) e))
-=======
+
 pub or-fst : (a b : Bool) → (a || b) ≡ false → a ≡ false
 or-fst true b e = e
 or-fst false b e = refl
@@ -65,4 +60,3 @@ or-fst false b e = refl
 pub or-snd : (a b : Bool) → (a || b) ≡ false → b ≡ false
 or-snd true b e = false-true (sym e)
 or-snd false b e = e
->>>>>>> 8700cdab6979a1842439e7a98f86f9b108a68c0a

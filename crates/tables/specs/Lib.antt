@@ -1,3 +1,4 @@
+pub mod Hours
 pub mod Laying
 pub mod Reading
 pub mod Rows

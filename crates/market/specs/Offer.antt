@@ -1,0 +1,10 @@
+-- Document 01, "Capped offer": "For an incremental cost c, the capped offer is c plus the lesser of c / 10 rounded down and
+-- 10000, but at most 200000 (6.4.2)." Assumes nothing.
+use Prim.Native.Nat.{ℕ, _+_, _/_, min}
+
+-- the highest capped offer, and the highest incremental cost that the table permits
+abbrev pub highest : ℕ
+highest = 200000
+
+unfoldable pub capped : ℕ → ℕ
+capped c = min (c + min (c / 10) 10000) highest

@@ -28,3 +28,8 @@ unfoldable pub firstOf : {A : Type 0} → List (Option A) → Option A
 firstOf [] = none
 firstOf (none ∷ os) = firstOf os
 firstOf (some x ∷ os) = some x
+
+-- opens all of the above, for examples that compute
+unfoldable pub search·all : Unit {0}
+unfolding first leading firstOf
+search·all = tt

@@ -90,3 +90,8 @@ unfoldable pub records : List ℕ → List (List (List ℕ))
 records s =
     let r = rest begin s in
     (r .field ∷ r .fields) ∷ r .records
+
+-- opens all of the above, for examples that compute
+unfoldable pub reading·all : Unit {0}
+unfolding next regular grown rest rfc4180 records
+reading·all = tt

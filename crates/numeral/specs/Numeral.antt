@@ -72,3 +72,8 @@ digitsBefore (suc k) n t =
 -- the numeral of n
 unfoldable pub digits : ℕ → List ℕ
 digits n = digitsBefore n n []
+
+-- opens all of the above, for examples that compute
+unfoldable pub numeral·all : Unit {0}
+unfolding digitsFrom leadingZero number within digitsBefore digits
+numeral·all = tt

@@ -5,3 +5,4 @@ pub mod HeaderLaws
 pub mod ReadLaws
 pub mod RowLaws
 pub mod RowViews
+pub mod Starred

@@ -77,3 +77,8 @@ laid f s = lay (misshapen f s)
     lay : Option Refusal → List ℕ
     lay none = allCells (table f .columns) (rows s)
     lay (some r) = []
+
+-- opens all of the above, for examples that compute
+unfoldable pub tableReading·all : Unit {0}
+unfolding rows sameFields misfit miscount malformed irregular misshapen refusal reading laid
+tableReading·all = tt

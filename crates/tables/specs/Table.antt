@@ -90,3 +90,8 @@ header f = map (λ (c : Column). c .name) (table f .columns)
 
 unfoldable pub width : File → ℕ
 width f = length (table f .columns)
+
+-- opens all of the above, for examples that compute
+unfoldable pub table·all : Unit {0}
+unfolding constraintColumns supplyColumns schedulesColumns allColumns columnAt header width
+table·all = tt

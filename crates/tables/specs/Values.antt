@@ -53,3 +53,8 @@ wellFormed (c ∷ cs) (v ∷ vs) = isSome (value c v) && wellFormed cs vs
 unfoldable pub allCells : List Column → List (List (List ℕ)) → List ℕ
 allCells cs [] = []
 allCells cs (r ∷ rs) = cells cs r ++ allCells cs rs
+
+-- opens all of the above, for examples that compute
+unfoldable pub values·all : Unit {0}
+unfolding excess oneOf inForm value isSome cells wellFormed allCells
+values·all = tt

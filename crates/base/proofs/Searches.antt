@@ -1,5 +1,5 @@
 -- Laws of searches. Assumes nothing.
-use Prim.Native.Nat.{ℕ, suc, _+_, _≤_}
+use Prim.Native.Nat.{ℕ, zero, suc, _+_, _≤_}
 use mathlib.Core.Path.{_≡_, refl, ap}
 use mathlib.Core.Logic.{⊎-elim}
 use mathlib.Core.Bool.{Bool, true, false, cond, _&&_, not}
@@ -7,9 +7,9 @@ use mathlib.Core.List.{List, [], _∷_}
 use mathlib.Core.Option.{Option, none, some}
 use native.Mathlib.Omega.{arith}
 use lib.Dec.{eqb, eqb·zero-suc, eqb·suc-suc}
-use lib.ListN.{length}
+use lib.ListN.{length, drop}
 use borrow.Author.Tests.{eq-eqb, ne-eqb}
-use Rattle.base.specs.Search.{one, first, leading}
+use Rattle.base.specs.Search.{one, first, leading, All, all-none, all-more}
 use Rattle.base.proofs.Tests.{either, eq-or-ne}
 
 module _ {A : Type 0} (p : A → Bool) where
@@ -98,3 +98,12 @@ module _ {A : Type 0} (p : A → Bool) where
 
       same : run ≡ done → Goal
       same e = ⊎-elim (passes e) (fails e) (either (p x))
+
+-- what every element has, each rest of the list has
+pub all-drop : {A : Type 0} {P : A → Type 0} {xs : List A} (i : ℕ) → All P xs → All P (drop i xs)
+all-drop zero a = a
+all-drop (suc i) all-none = all-none
+all-drop (suc i) (all-more p a) = all-drop i a
+
+pub all-head : {A : Type 0} {P : A → Type 0} {x : A} {xs : List A} → All P (x ∷ xs) → P x
+all-head (all-more p a) = p

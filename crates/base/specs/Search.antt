@@ -1,6 +1,6 @@
 -- Searches of a list, by a test. Assumes nothing.
 use Prim.Native.Nat.{ℕ, suc}
-use mathlib.Core.Bool.{Bool, cond}
+use mathlib.Core.Bool.{Bool, false, cond, _||_}
 use mathlib.Core.List.{List, [], _∷_}
 use mathlib.Core.Option.{Option, none, some}
 
@@ -23,6 +23,33 @@ module _ {A : Type 0} (p : A → Bool) where
       let more = suc (leading xs) in
       cond (p x) more 0
 
+  -- whether some element passes the test
+  unfoldable pub any : List A → Bool
+  any [] = false
+  any (x ∷ xs) = p x || any xs
+
+  -- the first element that passes the test
+  unfoldable pub find : List A → Option A
+  find [] = none
+  find (x ∷ xs) =
+      let more = find xs in
+      cond (p x) (some x) more
+
+  -- the elements that pass the test
+  unfoldable pub those : List A → List A
+  those [] = []
+  those (x ∷ xs) =
+      let more = those xs in
+      cond (p x) (x ∷ more) more
+
+-- the number of the first element that is at odds with an earlier one, where the list's first has the number k and `seen`
+-- came before it
+unfoldable pub firstAtOdds : {A : Type 0} → (A → A → Bool) → List A → ℕ → List A → Option ℕ
+firstAtOdds odds seen k [] = none
+firstAtOdds odds seen k (x ∷ xs) =
+    let more = firstAtOdds odds (x ∷ seen) (suc k) xs in
+    cond (any (odds x) seen) (some k) more
+
 -- the first of several that is there
 unfoldable pub firstOf : {A : Type 0} → List (Option A) → Option A
 firstOf [] = none
@@ -31,5 +58,10 @@ firstOf (some x ∷ os) = some x
 
 -- opens all of the above, for examples that compute
 unfoldable pub search·all : Unit {0}
-unfolding first leading firstOf
+unfolding first leading any find those firstAtOdds firstOf
 search·all = tt
+
+-- every element has a property
+pub data All {A : Type 0} (P : A → Type 0) : List A → Type 0 where
+  all-none : All P []
+  all-more : {x : A} {xs : List A} → P x → All P xs → All P (x ∷ xs)

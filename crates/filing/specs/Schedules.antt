@@ -1,0 +1,69 @@
+-- Document 01, "Files": what schedule rows must be to each other and to supply: "Rows of one schedule share kind, startup
+-- and minrun; no two share the hour. A unit has at most one M schedule. With study hour h, a schedule's run is the hours
+-- from h to the lesser of h + minrun - 1 and 23, and every schedule has a row for each." A schedule is a unit's, by its
+-- number. Assumes nothing.
+use Prim.Native.Nat.{ℕ, zero, suc, _+_, _-_}
+use mathlib.Core.Bool.{Bool, true, cond, not, _&&_, _||_}
+use mathlib.Core.List.{List, [], _∷_}
+use mathlib.Core.Option.{Option}
+use lib.Dec.{eqb}
+use Rattle.base.specs.Rising.{among}
+use Rattle.base.specs.Search.{first, any, find, those, firstAtOdds}
+use Rattle.tables.specs.Hours.{runEnd}
+use Rattle.tables.specs.Rows.{ScheduleRow}
+use Rattle.tables.specs.Table.{M}
+
+-- whether two rows are of one schedule
+unfoldable pub sameSchedule : ScheduleRow → ScheduleRow → Bool
+sameSchedule r e = eqb (r .unit) (e .unit) && eqb (r .schedule) (e .schedule)
+
+-- 6: a row that breaks the sharing rule of its schedule
+unfoldable pub unlike : ScheduleRow → ScheduleRow → Bool
+unlike r e =
+    sameSchedule r e && not (eqb (r .kind) (e .kind) && eqb (r .startup) (e .startup) && eqb (r .minrun) (e .minrun))
+
+-- or repeats an hour
+unfoldable pub repeats : ScheduleRow → ScheduleRow → Bool
+repeats r e = sameSchedule r e && eqb (r .hour) (e .hour)
+
+-- or adds a second M schedule
+unfoldable pub secondM : ScheduleRow → ScheduleRow → Bool
+secondM r e =
+    eqb (r .unit) (e .unit) && not (eqb (r .schedule) (e .schedule)) && eqb (r .kind) M && eqb (e .kind) M
+
+unfoldable pub scheduleOdds : ScheduleRow → ScheduleRow → Bool
+scheduleOdds r e = unlike r e || repeats r e || secondM r e
+
+-- "first record at odds with an earlier one"
+unfoldable pub schedulesAtOdds : List ScheduleRow → Option ℕ
+schedulesAtOdds rs = firstAtOdds scheduleOdds [] 1 rs
+
+-- 7: "schedule row of a unit not in supply (its record)"
+unfoldable pub strange : List ℕ → List ScheduleRow → Option ℕ
+strange us rs = first (λ (r : ScheduleRow). not (among (r .unit) us)) 1 rs
+
+-- the rows of a unit
+unfoldable pub own : ℕ → List ScheduleRow → List ScheduleRow
+own u rs = those (λ (r : ScheduleRow). eqb (r .unit) u) rs
+
+-- 8: "unit without a schedule (file 3, lowest unit)", of units by rising number
+unfoldable pub unscheduled : List ℕ → List ScheduleRow → Option ℕ
+unscheduled us rs = find (λ (u : ℕ). not (any (λ (r : ScheduleRow). eqb (r .unit) u) rs)) us
+
+-- n hours from k on, each with a row of the schedule of r
+unfoldable pub hasHours : ScheduleRow → ℕ → ℕ → List ScheduleRow → Bool
+hasHours r k zero rs = true
+hasHours r k (suc n) rs = any (λ (e : ScheduleRow). sameSchedule r e && eqb (e .hour) k) rs && hasHours r (suc k) n rs
+
+-- whether the schedule of r has a row for each hour of its run from h on
+unfoldable pub hasRun : ℕ → List ScheduleRow → ScheduleRow → Bool
+hasRun h rs r = hasHours r h (suc (runEnd h (r .minrun)) - h) rs
+
+-- 9: "schedule lacking a needed hour (file 3, lowest such unit)", of units by rising number
+unfoldable pub lacking : ℕ → List ℕ → List ScheduleRow → Option ℕ
+lacking h us rs = find (λ (u : ℕ). any (λ (r : ScheduleRow). not (hasRun h (own u rs) r)) (own u rs)) us
+
+-- opens all of the above, for examples that compute
+unfoldable pub schedules·all : Unit {0}
+unfolding sameSchedule unlike repeats secondM scheduleOdds schedulesAtOdds strange own unscheduled hasHours hasRun lacking runEnd
+schedules·all = tt

@@ -1,0 +1,56 @@
+-- Document 01, "Files": what supply rows must be to each other: "at most 64 units, 32 suppliers", and "Rows of one unit
+-- share supplier and dfax." Assumes nothing.
+use Prim.Native.Nat.{ℕ, suc}
+use mathlib.Core.Bool.{Bool, cond, not, _&&_, _||_}
+use mathlib.Core.List.{List, [], _∷_}
+use mathlib.Core.Option.{Option, none, some}
+use lib.Dec.{eqb, ltb}
+use lib.ListN.{length}
+use Rattle.base.specs.Rising.{inserted}
+use Rattle.base.specs.Search.{firstAtOdds}
+use Rattle.tables.specs.Rows.{SupplyRow}
+
+abbrev pub mostUnits : ℕ
+mostUnits = 64
+
+abbrev pub mostSuppliers : ℕ
+mostSuppliers = 32
+
+-- the units of some rows, by rising number, beside those of the rows before
+unfoldable pub unitsFrom : List ℕ → List SupplyRow → List ℕ
+unitsFrom us [] = us
+unitsFrom us (r ∷ rs) = unitsFrom (inserted (r .unit) us) rs
+
+-- the suppliers likewise
+unfoldable pub suppliersFrom : List ℕ → List SupplyRow → List ℕ
+suppliersFrom ss [] = ss
+suppliersFrom ss (r ∷ rs) = suppliersFrom (inserted (r .supplier) ss) rs
+
+unfoldable pub units : List SupplyRow → List ℕ
+units rs = unitsFrom [] rs
+
+unfoldable pub suppliers : List SupplyRow → List ℕ
+suppliers rs = suppliersFrom [] rs
+
+-- 5: "a 65th unit or 33rd supplier in supply (its record)". Of the rows before, us are the units and ss the suppliers
+unfoldable pub crowdedFrom : List ℕ → List ℕ → ℕ → List SupplyRow → Option ℕ
+crowdedFrom us ss k [] = none
+crowdedFrom us ss k (r ∷ rs) =
+    let more = crowdedFrom (inserted (r .unit) us) (inserted (r .supplier) ss) (suc k) rs in
+    cond (ltb mostUnits (length (inserted (r .unit) us)) || ltb mostSuppliers (length (inserted (r .supplier) ss))) (some k) more
+
+unfoldable pub crowded : List SupplyRow → Option ℕ
+crowded rs = crowdedFrom [] [] 1 rs
+
+-- 6: "Rows of one unit share supplier and dfax."
+unfoldable pub supplyOdds : SupplyRow → SupplyRow → Bool
+supplyOdds r e = eqb (r .unit) (e .unit) && not (eqb (r .supplier) (e .supplier) && eqb (r .dfax) (e .dfax))
+
+-- "first record at odds with an earlier one"
+unfoldable pub supplyAtOdds : List SupplyRow → Option ℕ
+supplyAtOdds rs = firstAtOdds supplyOdds [] 1 rs
+
+-- opens all of the above, for examples that compute
+unfoldable pub supply·all : Unit {0}
+unfolding unitsFrom suppliersFrom units suppliers crowdedFrom crowded supplyOdds supplyAtOdds
+supply·all = tt

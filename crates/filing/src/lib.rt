@@ -1,0 +1,1 @@
+// What rows must be to each other.

@@ -4,12 +4,12 @@ use mathlib.Core.Path.{_≡_, refl, ap}
 use mathlib.Core.Logic.{⊎-elim}
 use mathlib.Core.Bool.{Bool, true, false, cond, _&&_, not}
 use mathlib.Core.List.{List, [], _∷_}
-use mathlib.Core.Option.{Option, none, some}
+use mathlib.Core.Option.{Option, none, some, Option·map}
 use native.Mathlib.Omega.{arith}
 use lib.Dec.{eqb, eqb·zero-suc, eqb·suc-suc}
 use lib.ListN.{length, drop}
 use borrow.Author.Tests.{eq-eqb, ne-eqb}
-use Rattle.base.specs.Search.{one, first, leading, All, all-none, all-more}
+use Rattle.base.specs.Search.{one, first, leading, firstOf, All, all-none, all-more}
 use Rattle.base.proofs.Tests.{either, eq-or-ne}
 
 module _ {A : Type 0} (p : A → Bool) where
@@ -107,3 +107,30 @@ all-drop (suc i) (all-more p a) = all-drop i a
 
 pub all-head : {A : Type 0} {P : A → Type 0} {x : A} {xs : List A} → All P (x ∷ xs) → P x
 all-head (all-more p a) = p
+
+-- where a search finds nothing, nothing was there
+pub first-of-none :
+    {A : Type 0} (o : Option A) (os : List (Option A)) → firstOf (o ∷ os) ≡ none → (o ≡ none) × (firstOf os ≡ none)
+unfolding firstOf
+first-of-none none os e = (refl, e)
+first-of-none (some x) os e = let z : _≡_ {A = ℕ} 0 1 = cc in absurd (omega arith)
+
+pub option-map-none : {A B : Type 0} (f : A → B) (o : Option A) → Option·map f o ≡ none → o ≡ none
+option-map-none f none e = refl
+option-map-none f (some x) e = let z : _≡_ {A = ℕ} 0 1 = cc in absurd (omega arith)
+
+pub first-none-all :
+    {A : Type 0} (p : A → Bool) (k : ℕ) (xs : List A) → first (λ (x : A). not (p x)) k xs ≡ none →
+    All (λ (x : A). p x ≡ true) xs
+unfolding first
+first-none-all p k [] e = all-none
+first-none-all {A} p k (x ∷ xs) e = go (p x) refl (first-none-all p (suc k) xs) e
+  where
+    Later : Type 0
+    Later = first (λ (x : A). not (p x)) (suc k) xs ≡ none
+
+    go :
+        (t : Bool) → p x ≡ t → (Later → All (λ (x : A). p x ≡ true) xs) →
+        cond (not t) (some k) (first (λ (x : A). not (p x)) (suc k) xs) ≡ none → All (λ (x : A). p x ≡ true) (x ∷ xs)
+    go true q later e = all-more q (later e)
+    go false q later e = let z : _≡_ {A = ℕ} 0 1 = cc in absurd (omega arith)

@@ -1,7 +1,9 @@
+pub mod Accepted
 pub mod AlikeValues
 pub mod ColumnLaws
 pub mod Forms
 pub mod HeaderLaws
+pub mod Permitted
 pub mod ReadLaws
 pub mod RowLaws
 pub mod RowViews

@@ -230,7 +230,7 @@ module _
           cell = rw (field-value, is-none);
         }
 
-cells-length : (cs : List Column) (vs : List (List ℕ)) → length vs ≡ length cs → length (cells cs vs) ≡ length cs
+pub cells-length : (cs : List Column) (vs : List (List ℕ)) → length vs ≡ length cs → length (cells cs vs) ≡ length cs
 unfolding cells
 cells-length [] vs e = refl
 cells-length (c ∷ cs) [] e = e

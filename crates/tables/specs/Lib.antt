@@ -1,5 +1,6 @@
 pub mod Hours
 pub mod Laying
+pub mod Ranges
 pub mod Reading
 pub mod Rows
 pub mod Table

@@ -1,3 +1,4 @@
+pub mod Filed
 pub mod Filing
 pub mod Schedules
 pub mod Supply

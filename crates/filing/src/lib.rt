@@ -1,1 +1,2 @@
-// What rows must be to each other.
+// What rows must be to each other, within a file and between files.
+mod files;

@@ -2,7 +2,7 @@
 -- then 8, then 9 (document 01, "Refused because of the input"). Assumes nothing.
 use Prim.Native.Nat.{ℕ}
 use mathlib.Core.List.{List, [], _∷_, map}
-use mathlib.Core.Option.{Option, Option·map}
+use mathlib.Core.Option.{Option, Option·map, Option·getD}
 use lib.ListN.{getD}
 use Rattle.base.specs.Search.{firstOf}
 use Rattle.tables.specs.Rows.{ConstraintRow, SupplyRow, ScheduleRow, constraintRow, supplyRow, scheduleRow}
@@ -44,7 +44,11 @@ filingRefusal c s h =
     ∷ Option·map (refused 9 Schedules) (lacking (constraintOf c .hour) (units (supplyOf s)) (schedulesOf h))
     ∷ [])
 
+-- "A check .. answers 0 or the number of the first refusal, as far as 9 in the order below, that a study of them gives."
+unfoldable pub checkNumber : List ℕ → List ℕ → List ℕ → ℕ
+checkNumber c s h = Option·getD (Option·map (λ (r : Refusal). r .number) (filingRefusal c s h)) 0
+
 -- opens all of the above, for examples that compute
 unfoldable pub filing·all : Unit {0}
-unfolding rowCells constraintOf supplyOf schedulesOf filingRefusal
+unfolding rowCells constraintOf supplyOf schedulesOf filingRefusal checkNumber
 filing·all = tt

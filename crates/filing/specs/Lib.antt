@@ -1,3 +1,4 @@
+pub mod Checks
 pub mod Filed
 pub mod Filing
 pub mod Schedules

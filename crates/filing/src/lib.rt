@@ -1,2 +1,3 @@
 // What rows must be to each other, within a file and between files.
+mod checks;
 mod files;

@@ -1,4 +1,5 @@
 pub mod Lists
+pub mod Members
 pub mod Searches
 pub mod Tests
 pub mod Writers

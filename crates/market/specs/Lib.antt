@@ -1,1 +1,7 @@
+pub mod Clearing
 pub mod Offer
+pub mod Parties
+pub mod Ranges
+pub mod Relevant
+pub mod Removals
+pub mod Supply

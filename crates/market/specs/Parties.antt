@@ -1,0 +1,37 @@
+-- Document 01, "Market and verdict", point 5: the suppliers that are tested, each with its relevant supply. "A supplier with
+-- no relevant row is tested with 0 of its own." Assumes nothing.
+use Prim.Native.Nat.{ℕ}
+use mathlib.Core.Bool.{Bool, cond, _&&_}
+use mathlib.Core.List.{List, [], _∷_, _++_, map}
+use lib.Dec.{eqb}
+use Rattle.tables.specs.Rows.{SupplyRow}
+use Rattle.pivotal.specs.Suppliers.{among}
+use Rattle.market.specs.Supply.{supplyOf}
+use Rattle.market.specs.Relevant.{relevant}
+
+-- the number under which a row's supply counts in the test: its supplier
+unfoldable pub party : SupplyRow → ℕ
+party r = r .supplier
+
+-- the parties ks, and behind them k, unless it is among them
+unfoldable pub met : List ℕ → ℕ → List ℕ
+met ks k = cond (among k ks) ks (ks ++ (k ∷ []))
+
+unfoldable pub metAll : List ℕ → List SupplyRow → List ℕ
+metAll ks [] = ks
+metAll ks (r ∷ rows) = metAll (met ks (party r)) rows
+
+-- the different parties of the rows, in the order in which they first appear
+unfoldable pub parties : List SupplyRow → List ℕ
+parties rows = metAll [] rows
+
+-- whether the row r counts for the party k, where the row q clears
+unfoldable pub relevantOf : ℕ → SupplyRow → ℕ → SupplyRow → Bool
+relevantOf cutoff q k r = relevant cutoff q r && eqb (party r) k
+
+-- the relevant supply of a party, and of each of them
+unfoldable pub amountOf : ℕ → SupplyRow → List SupplyRow → ℕ → ℕ
+amountOf cutoff q rows k = supplyOf (relevantOf cutoff q k) rows
+
+unfoldable pub amounts : ℕ → SupplyRow → List SupplyRow → List ℕ
+amounts cutoff q rows = map (amountOf cutoff q rows) (parties rows)

@@ -3,7 +3,7 @@ use Prim.Native.Nat.{ℕ, zero, suc, _+_, _-_, _≤_, _<_, zero-le}
 use mathlib.Core.Path.{_≡_, refl, sym, _∙_, ap}
 use mathlib.Core.Logic.{⊎-elim}
 use mathlib.Core.Bool.{Bool, true, _&&_}
-use mathlib.Core.List.{List, [], _∷_, _++_, append-nil}
+use mathlib.Core.List.{List, [], _∷_, _++_, append-nil, map, List·Memᴰ as Among, List·Memᴰ·tail as later}
 use native.Mathlib.Numerals.{add-one}
 use native.Mathlib.Omega.{arith}
 use lib.Dec.{leb}
@@ -58,3 +58,14 @@ drop-back i s = ⊎-elim inside past (lt-or-ge i (length s))
 
     past : length s ≤ i → drop (length s - length (drop i s)) s ≡ drop i s
     past h = drop-end (length s - length (drop i s)) s (omega (arith, length-drop i s)) ∙ sym (drop-end i s h)
+
+pub drop-map : {A B : Type 0} (f : A → B) (i : ℕ) (l : List A) → drop i (map f l) ≡ map f (drop i l)
+drop-map f zero l = refl
+drop-map f (suc i) [] = refl
+drop-map f (suc i) (x ∷ xs) = drop-map f i xs
+
+-- what is among the elements from a place on is among all
+pub among-drop : {A : Type 0} {x : A} (i : ℕ) (l : List A) → Among x (drop i l) → Among x l
+among-drop zero l m = m
+among-drop (suc i) [] m = m
+among-drop (suc i) (y ∷ ys) m = later (among-drop i ys m)

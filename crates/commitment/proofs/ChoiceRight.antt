@@ -1,0 +1,165 @@
+-- The choice is just what demand 3 asks, both ways; there is one exactly when some schedule is eligible; and some schedule is
+-- eligible where the unit has one, and a C schedule if it runs on cost. Assumes nothing.
+use Prim.Native.Nat.{ℕ, _≤_, _<_}
+use mathlib.Core.Path.{_≡_, refl, sym, _∙_, ap, subst}
+use mathlib.Core.Logic.{_↔_, _⊎_, ⊎-elim}
+use mathlib.Core.Bool.{Bool, true, false, _||_}
+use mathlib.Core.List.{List, [], _∷_, map, List·Memᴰ as Among, List·Memᴰ·head as first, List·Memᴰ·tail as later, List·Memᴰ·not-nil as not-nil}
+use mathlib.Core.Option.{Option, none, some}
+use native.Mathlib.Omega.{arith}
+use Rattle.base.proofs.Tests.{eq-or-ne, false-true, or-fst, or-snd}
+use Rattle.tables.specs.Rows.{ScheduleRow, kindOf}
+use Rattle.tables.specs.declared.files.Kind.{Kind}
+use Rattle.tables.specs.declared.files.Kind.the-variants.{M, C}
+use Rattle.commitment.specs.declared.choosing.Kinds.{Kinds}
+use Rattle.commitment.specs.declared.choosing.Kinds.the-variants.{All, OnlyM, OnlyC}
+use Rattle.commitment.specs.declared.choosing.Choice.{Choice}
+use Rattle.commitment.specs.declared.choosing.Chosen.{Chosen}
+use Rattle.commitment.specs.declared.choosing.Chosen.the-variants.{Schedule, Nothing}
+use Rattle.commitment.specs.Cost.{cost}
+use Rattle.commitment.specs.Schedules.{schedules, running, onCost, admits, ofKinds, hasAny, eligibleKinds, eligible}
+use Rattle.commitment.specs.Choosing.{shown, candidates, choice}
+use Rattle.commitment.specs.Right.{Eligible, RightChoice, OneRowEach}
+use Rattle.commitment.proofs.PassingLaws.{passing-among, among-passing, map-among, among-map}
+use Rattle.commitment.proofs.LeastLaws.{NoWorse, Least, no-candidate, least-one, least-kept}
+
+module _ (day : Option Kind) (exposed : Bool) (h : ℕ) (rows : List ScheduleRow) where
+  -- a candidate is an eligible schedule as an answer shows it
+  candidate : (row : ScheduleRow) → Eligible day exposed h rows row → Among (shown day h rows row) (candidates day exposed h rows)
+  unfolding candidates
+  candidate row e =
+      map-among (shown day h rows) (passing-among (eligible day exposed (schedules h rows)) (e .of-the-unit) (e .passes))
+
+  of-a-row :
+      (c : Choice) → Among c (candidates day exposed h rows) →
+      (row : ScheduleRow) × Eligible day exposed h rows row × (c ≡ shown day h rows row)
+  unfolding candidates
+  of-a-row c m =
+      let (row, n, e) = among-map (shown day h rows) _ m in
+      let (k, t) = among-passing (eligible day exposed (schedules h rows)) (schedules h rows) n in
+      (row, record { of-the-unit = k; passes = t }, e)
+
+  chosen : Least (candidates day exposed h rows) (choice day exposed h rows)
+  unfolding choice
+  chosen = least-kept (candidates day exposed h rows)
+
+  right : {o : Chosen} → Least (candidates day exposed h rows) o → (c : Choice) → o ≡ Schedule c → RightChoice day exposed h rows c
+  unfolding shown
+  right (no-candidate _) c e = let z : _≡_ {A = ℕ} 0 1 = cc in absurd (omega arith)
+  right (least-one {c = d} m all) c e =
+      let (row, el, s) = of-a-row d m in
+      let same : d ≡ c = cc in
+      subst (RightChoice day exposed h rows) same
+      (record {
+        row = row;
+        is-eligible = el;
+        shows = s;
+        least = λ other k. all (shown day h rows other) (candidate other k) .costs;
+        smallest = λ other k f differs. omega (arith, all (shown day h rows other) (candidate other k) .number f, differs);
+      })
+
+  -- a candidate that is no worse than the right choice is the right choice
+  only :
+      OneRowEach h rows → {c d : Choice} → RightChoice day exposed h rows c → Among d (candidates day exposed h rows) → NoWorse d c →
+      d ≡ c
+  unfolding shown
+  only distinct {c} {d} r m n =
+      let (row, el, s) = of-a-row d m in
+      let number : d .schedule ≡ row .schedule = ap (λ (x : Choice). x .schedule) s in
+      let costs : cost (running day) h rows row ≡ c .cost = omega (arith, n .costs, r .least row el, ap (λ (x : Choice). x .cost) s) in
+      let no-larger : d .schedule ≤ c .schedule = n .number (omega (arith, ap (λ (x : Choice). x .cost) s)) in
+      ⊎-elim
+      (λ e.
+      let its-row = distinct .same row (r .row) (el .of-the-unit) (r .is-eligible .of-the-unit) (e ∙ ap (λ (x : Choice). x .schedule) (r .shows)) in
+      s ∙ ap (shown day h rows) its-row ∙ sym (r .shows))
+      (λ e. absurd (omega (arith, r .smallest row el costs e)))
+      (eq-or-ne (row .schedule) (c .schedule))
+
+  is-candidate : {c : Choice} → RightChoice day exposed h rows c → Among c (candidates day exposed h rows)
+  is-candidate r = rw (r .shows) (candidate (r .row) (r .is-eligible))
+
+  kept-right :
+      OneRowEach h rows → {o : Chosen} → Least (candidates day exposed h rows) o → (c : Choice) →
+      RightChoice day exposed h rows c →
+      o ≡ Schedule c
+  kept-right distinct (no-candidate e) c r = absurd (not-nil (rw e at (is-candidate r)))
+  kept-right distinct (least-one m all) c r = ap Schedule (only distinct r m (all c (is-candidate r)))
+
+  pub choice-right :
+      OneRowEach h rows → (c : Choice) → (choice day exposed h rows ≡ Schedule c) ↔ RightChoice day exposed h rows c
+  choice-right distinct c = (right chosen c, kept-right distinct chosen c)
+
+  -- there is a choice exactly when some schedule is eligible
+  found :
+      {o : Chosen} → Least (candidates day exposed h rows) o → (row : ScheduleRow) → Eligible day exposed h rows row →
+      (c : Choice) × (o ≡ Schedule c)
+  found (no-candidate e) row el = absurd (not-nil (rw e at (candidate row el)))
+  found (least-one {c = d} m all) row el = (d, refl)
+
+  pub choice-exists :
+      ((c : Choice) × (choice day exposed h rows ≡ Schedule c)) ↔ ((row : ScheduleRow) × Eligible day exposed h rows row)
+  choice-exists = (
+    λ x.
+        let r = right chosen (x .0) (x .1) in
+        (r .row, r .is-eligible),
+    λ x. found chosen (x .0) (x .1),
+  )
+
+-- a schedule of these kinds
+of-kinds :
+    (kinds : Kinds) (all : List ScheduleRow) → hasAny kinds all ≡ true →
+    (row : ScheduleRow) × Among row all × (ofKinds kinds row ≡ true)
+unfolding hasAny
+of-kinds kinds [] e = false-true e
+of-kinds kinds (row ∷ rows) e = go (ofKinds kinds row) refl e (of-kinds kinds rows)
+  where
+    go :
+        (t : Bool) → ofKinds kinds row ≡ t → (t || hasAny kinds rows) ≡ true →
+        (hasAny kinds rows ≡ true → (other : ScheduleRow) × Among other rows × (ofKinds kinds other ≡ true)) →
+        (other : ScheduleRow) × Among other (row ∷ rows) × (ofKinds kinds other ≡ true)
+    go true f e more = (row, first refl, f)
+    go false f e more = (more e .0, later (more e .1), more e .2)
+
+none-of-kinds :
+    (kinds : Kinds) {all : List ScheduleRow} {row : ScheduleRow} → hasAny kinds all ≡ false → Among row all →
+    ofKinds kinds row ≡ false
+unfolding hasAny
+none-of-kinds kinds e (first {x = r} {xs = rs} f) = rw f (or-fst _ (hasAny kinds rs) e)
+none-of-kinds kinds e (later {x = r} {xs = rs} m) = none-of-kinds kinds (or-snd (ofKinds kinds r) (hasAny kinds rs) e) m
+
+-- what isn't M is C
+isn't-M : (row : ScheduleRow) → ofKinds OnlyM row ≡ false → ofKinds OnlyC row ≡ true
+unfolding ofKinds
+isn't-M row = go (kindOf (row .kind))
+  where
+    go : (k : Kind) → admits OnlyM k ≡ false → admits OnlyC k ≡ true
+    go M e = false-true (sym e)
+    go C e = refl
+
+module _ (day : Option Kind) (exposed : Bool) (h : ℕ) (rows : List ScheduleRow) where
+  -- the schedules of the eligible kinds are the eligible ones
+  by-kinds :
+      (kinds : Kinds) → eligibleKinds day exposed (hasAny OnlyM (schedules h rows)) ≡ kinds → (row : ScheduleRow) →
+      Among row (schedules h rows) → ofKinds kinds row ≡ true →
+      (row : ScheduleRow) × Eligible day exposed h rows row
+  unfolding eligible
+  by-kinds kinds e row m f = (row, record { of-the-unit = m; passes = rw e f })
+
+  -- some schedule is eligible, where the unit has one, and a C schedule if it runs on cost
+  pub some-eligible :
+      (row : ScheduleRow) → Among row (schedules h rows) → (onCost day ≡ true → hasAny OnlyC (schedules h rows) ≡ true) →
+      (row : ScheduleRow) × Eligible day exposed h rows row
+  unfolding eligibleKinds
+  some-eligible row m on-cost = go (onCost day) exposed (hasAny OnlyM (schedules h rows)) refl refl refl
+    where
+      go :
+          (t u v : Bool) → onCost day ≡ t → exposed ≡ u → hasAny OnlyM (schedules h rows) ≡ v →
+          (row : ScheduleRow) × Eligible day exposed h rows row
+      go true u v e f g =
+          let (other, n, k) = of-kinds OnlyC (schedules h rows) (on-cost e) in
+          by-kinds OnlyC (simp e) other n k
+      go false true v e f g = by-kinds All (simp (e, f)) row m (unfold ofKinds in refl)
+      go false false true e f g =
+          let (other, n, k) = of-kinds OnlyM (schedules h rows) g in
+          by-kinds OnlyM (simp (e, f, g)) other n k
+      go false false false e f g = by-kinds OnlyC (simp (e, f, g)) row m (isn't-M row (none-of-kinds OnlyM g m))

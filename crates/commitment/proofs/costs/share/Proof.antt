@@ -1,0 +1,53 @@
+-- What a row adds to the cost of a run. Assumes nothing.
+use mathlib.Core.Path.{sym, _∙_}
+use native.Mathlib.Omega.{arith}
+use Rattle.commitment.proofs.CostLaws.{share-in, share-out, share-other}
+use borrow.Author.Needs.{needs}
+use Rattle.commitment.proofs.costs.share.Statement.{statement}
+use Rattle.commitment.proofs.costs.share.Tie as tie
+
+cell-requires : tie.Need-cell-requires
+cell-requires c κs = search needs
+
+cell-requires-2 : tie.Need-cell-requires-2
+cell-requires-2 c κs = search needs
+
+cell-requires-3 : tie.Need-cell-requires-3
+cell-requires-3 c κs = search needs
+
+cell-requires-4 : tie.Need-cell-requires-4
+cell-requires-4 c κs = search needs
+
+in-run-requires : tie.Need-in-run-requires
+in-run-requires c κs = search needs
+
+hour-cost-requires : tie.Need-hour-cost-requires
+hour-cost-requires c κs = search needs
+
+returns : tie.Need-returns
+returns c =
+    let run = c .before .before in
+    c .hour-cost .ensures
+    ∙ sym (share-in _ _ _ (omega arith) (run .before .before .cell3 .ensures) (run .before .cell4 .ensures) (sym (run .in-run .ensures) ∙ c .before .if2 .taken))
+
+returns-2 : tie.Need-returns-2
+returns-2 c =
+    let run = c .before in
+    sym (share-out _ _ _ (omega arith) (run .before .before .cell3 .ensures) (run .before .cell4 .ensures) (sym (run .in-run .ensures) ∙ c .if2 .left))
+
+returns-3 : tie.Need-returns-3
+returns-3 c = sym (share-other _ _ _ (omega arith))
+
+pub share-spec : {M : Type 1} → statement M
+share-spec =
+    tie.close
+    (tie.spec
+    cell-requires
+    cell-requires-2
+    cell-requires-3
+    cell-requires-4
+    in-run-requires
+    hour-cost-requires
+    returns
+    returns-2
+    returns-3)

@@ -76,15 +76,15 @@ module _ (cutoff need : ℕ) (rows : List SupplyRow) (q : SupplyRow) where
   clears-decides = (
     λ c. (c .a-row, simp (le-leb cutoff (absDfax q) (c .is-eligible), le-leb need _ (c .enough), lt-ltb _ need (c .less))),
     λ m.
-      let up = supplyOf (eligibleUpTo cutoff q) rows in
-      let under = supplyOf (eligibleBelow cutoff q) rows in
-      let supplies : (leb need up && ltb under need) ≡ true = and-snd (leb cutoff (absDfax q)) _ (m .1) in
-      record {
-        a-row = m .0;
-        is-eligible = leb-true cutoff (absDfax q) (and-fst (leb cutoff (absDfax q)) _ (m .1));
-        enough = leb-true need up (and-fst (leb need up) (ltb under need) supplies);
-        less = ltb-true under need (and-snd (leb need up) (ltb under need) supplies);
-      },
+        let up = supplyOf (eligibleUpTo cutoff q) rows in
+        let under = supplyOf (eligibleBelow cutoff q) rows in
+        let supplies : (leb need up && ltb under need) ≡ true = and-snd (leb cutoff (absDfax q)) _ (m .1) in
+        record {
+          a-row = m .0;
+          is-eligible = leb-true cutoff (absDfax q) (and-fst (leb cutoff (absDfax q)) _ (m .1));
+          enough = leb-true need up (and-fst (leb need up) (ltb under need) supplies);
+          less = ltb-true under need (and-snd (leb need up) (ltb under need) supplies);
+        },
   )
 
   -- where a row clears, eligible supply is not short of the need
@@ -154,12 +154,15 @@ module _ (cutoff need : ℕ) (rows : List SupplyRow) (positive : 0 < cutoff) whe
   module _ (some-need : 0 < need) where
     -- the cheapest row that reaches the need clears
     cheapest-clears : Lowest AtMost reaches rows → (q : SupplyRow) × Clears cutoff need rows q
-    cheapest-clears l = (l .it, record {
-      a-row = l .a-member;
-      is-eligible = eligible-is cutoff (l .it) (l .it) (reaches-eligible (l .it) (l .passes));
-      enough = reaches-enough (l .it) (l .passes);
-      less = ⊎-elim (λ h. h) (λ h. absurd (too-cheap h)) (lt-or-ge (supplyOf (eligibleBelow cutoff (l .it)) rows) need);
-    })
+    cheapest-clears l = (
+      l .it,
+      record {
+        a-row = l .a-member;
+        is-eligible = eligible-is cutoff (l .it) (l .it) (reaches-eligible (l .it) (l .passes));
+        enough = reaches-enough (l .it) (l .passes);
+        less = ⊎-elim (λ h. h) (λ h. absurd (too-cheap h)) (lt-or-ge (supplyOf (eligibleBelow cutoff (l .it)) rows) need);
+      },
+    )
       where
         too-cheap : need ≤ supplyOf (eligibleBelow cutoff (l .it)) rows → ⊥
         too-cheap h =

@@ -98,7 +98,7 @@ module _ (cutoff : ℕ) (q : SupplyRow) (rows : List SupplyRow) (p : ℕ) (h : p
   unfolding pivotal
   pivotal-over-rows need = (
     λ e.
-      let (taken, r, f) = attained-over-rows in
-      (taken, r, omega (arith, ltb-true (left (amounts cutoff q rows) p) need e)),
+        let (taken, r, f) = attained-over-rows in
+        (taken, r, omega (arith, ltb-true (left (amounts cutoff q rows) p) need e)),
     λ x. lt-ltb (left (amounts cutoff q rows) p) need (omega (arith, least-over-rows (x .0) (x .1), x .2)),
   )

@@ -1,4 +1,5 @@
 pub mod Lists
+pub mod RisingLaws
 pub mod Searches
 pub mod Tests
 pub mod Writers

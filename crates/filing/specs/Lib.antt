@@ -1,3 +1,4 @@
 pub mod Filing
+pub mod Numbers
 pub mod Schedules
 pub mod Supply

@@ -1,5 +1,9 @@
 // What rows must be to each other.
 mod numbers;
+mod supply;
 
 pub use numbers::contains;
 pub use numbers::insert;
+pub use supply::Counts;
+pub use supply::crowd;
+pub use supply::supply_at_odds;

@@ -1,17 +1,16 @@
--- Laws of numbers by rising number: what inserting does to the order, to who is among them and to how many there are; the
--- order by places. Assumes nothing.
-use Prim.Native.Nat.{ℕ, zero, suc, _+_, _-_, _≤_, _<_}
+-- Laws of numbers by rising number: what inserting does to their order, to who is among them and to how many there are;
+-- and their order by places. Assumes nothing.
+use Prim.Native.Nat.{ℕ, zero, suc, _+_, _≤_, _<_}
 use mathlib.Core.Path.{_≡_, refl, sym, _∙_, ap}
 use mathlib.Core.Logic.{⊎-elim}
-use mathlib.Core.Bool.{Bool, true, false, cond, _||_}
-use mathlib.Core.List.{List, [], _∷_, _++_}
+use mathlib.Core.Bool.{Bool, true, false, _||_}
+use mathlib.Core.List.{List, [], _∷_}
 use native.Mathlib.Omega.{arith}
 use native.Mathlib.Nat.{le-of-suc-le-suc, not-suc-le-zero}
-use lib.Dec.{eqb, ltb}
-use lib.ListN.{length, getD, take, drop}
+use lib.Dec.{eqb}
+use lib.ListN.{length, getD}
 use borrow.Author.Tests.{lt-ltb, le-ltb, eq-eqb, ne-eqb}
 use Rattle.base.specs.Rising.{inserted, among, RisingFrom, end, next}
-use Rattle.base.specs.Search.{leading}
 use Rattle.base.proofs.Tests.{false-true, lt-or-ge, eq-or-ne}
 
 -- the three ways of inserting before, at or behind the first number

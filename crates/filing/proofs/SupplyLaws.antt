@@ -1,7 +1,7 @@
 -- Laws of what supply rows must be to each other, row by row, over plain lists. Assumes nothing.
-use Prim.Native.Nat.{ℕ, zero, suc, _+_, _-_, _*_, _≤_, _<_}
+use Prim.Native.Nat.{ℕ, suc, _+_, _-_, _*_, _≤_, _<_}
 use mathlib.Core.Path.{_≡_, refl, sym, _∙_, ap}
-use mathlib.Core.Bool.{Bool, true, false, cond, not}
+use mathlib.Core.Bool.{true, false, cond, not}
 use mathlib.Core.List.{List, [], _∷_}
 use mathlib.Core.Option.{Option, none, some, Option·getD}
 use native.Mathlib.Omega.{arith}
@@ -29,8 +29,7 @@ use Rattle.filing.specs.Supply.{
   supplyOdds,
   supplyAtOdds,
 }
-use Rattle.filing.specs.SupplyPromises.{Listed, Counted, tooMany, rowAt, earlier}
-use Rattle.filing.specs.declared.supply.Counts.{Counts}
+use Rattle.filing.specs.SupplyPromises.{Counted, tooMany, rowAt, earlier}
 
 -- a run in which different numbers are laid down, `count` so far
 pub record Growing (most : ℕ) (old now : List ℕ) (count : ℕ) : Type 0 where

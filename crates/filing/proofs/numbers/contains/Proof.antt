@@ -1,7 +1,6 @@
 -- A search of the first numbers, one a turn. Assumes nothing.
 use Prim.Native.Nat.{_-_}
 use native.Mathlib.Omega.{arith}
-use borrow.Author.Needs.{needs}
 use Rattle.filing.proofs.NumberLaws.{Seeking, seeking-none, seeking-next, seeking-here, seeking-over}
 use Rattle.filing.proofs.numbers.contains.Statement.{statement}
 use Rattle.filing.proofs.numbers.contains.Tie as tie

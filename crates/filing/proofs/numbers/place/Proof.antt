@@ -2,7 +2,6 @@
 use Prim.Native.Nat.{_-_}
 use native.Mathlib.Omega.{arith}
 use lib.ListN.{length}
-use borrow.Author.Needs.{needs}
 use Rattle.filing.proofs.NumberLaws.{Placing, placing-none, placing-next, placing-here, placing-over}
 use Rattle.filing.proofs.numbers.place.Statement.{statement}
 use Rattle.filing.proofs.numbers.place.Tie as tie

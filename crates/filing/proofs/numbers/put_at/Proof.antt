@@ -2,7 +2,6 @@
 use Prim.Native.Nat.{_-_}
 use native.Mathlib.Omega.{arith}
 use lib.ListN.{length-set}
-use borrow.Author.Needs.{needs}
 use Rattle.filing.proofs.NumberLaws.{Putting, putting-none, putting-next, putting-over}
 use Rattle.filing.proofs.numbers.put_at.Statement.{statement}
 use Rattle.filing.proofs.numbers.put_at.Tie as tie

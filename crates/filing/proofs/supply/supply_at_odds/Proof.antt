@@ -1,46 +1,42 @@
+-- Rows against those before them, one row a turn. Assumes nothing.
+use Prim.Native.Nat.{_-_}
+use mathlib.Core.Path.{sym, _∙_}
+use native.Mathlib.Omega.{arith}
+use Rattle.filing.proofs.SupplyLaws.{Agreeing, agreeing-none, agreeing-next, agreeing-here, agreeing-over}
 use Rattle.filing.proofs.supply.supply_at_odds.Statement.{statement}
 use Rattle.filing.proofs.supply.supply_at_odds.Tie as tie
-use Rattle.filing.proofs.supply.supply_at_odds.Reads as reads
-use Rattle.filing.proofs.supply.supply_at_odds.Lts as lts
-use Rattle.filing.proofs.supply.at_odds_with_earlier.Reads as at-odds-with-earlier-reads
 
 abbrev Inv-loop : tie.InvT-loop
-Inv-loop cells n k₀ k = ?
+Inv-loop cells n k₀ k = Agreeing cells n k
 
 abbrev μ-loop : tie.MeasureT-loop
-μ-loop cells n k₀ k = ?
+μ-loop cells n k₀ k = n - k
 
--- src/supply.rt:80:5
 loop-holds : tie.Need-loop-holds Inv-loop μ-loop
-loop-holds c = ?
+loop-holds c = agreeing-none _ _ (omega arith)
 
--- src/supply.rt:81:12
 at-odds-with-earlier-requires : tie.Need-at-odds-with-earlier-requires Inv-loop μ-loop
-at-odds-with-earlier-requires c κs = ?
+at-odds-with-earlier-requires c κs = omega arith
 
--- src/supply.rt:82:20
 add-result : tie.Need-add-result Inv-loop μ-loop
-add-result c = ?
+add-result c = omega arith
 
--- src/supply.rt:82:13
 returns : tie.Need-returns Inv-loop μ-loop
-returns c = ?
+returns c = agreeing-here _ _ _ (c .before .before .before .loop .inv) (omega arith)
+    (sym (c .before .at-odds-with-earlier .ensures) ∙ c .if1 .taken)
 
--- src/supply.rt:84:9
 add-k : tie.Need-add-k Inv-loop μ-loop
-add-k c = ?
+add-k c = omega arith
 
--- src/supply.rt:80:5
 loop-less : tie.Need-loop-less Inv-loop μ-loop
-loop-less c = ?
+loop-less c = omega arith
 
--- src/supply.rt:80:5
 loop-again : tie.Need-loop-again Inv-loop μ-loop
-loop-again c = ?
+loop-again c = agreeing-next _ _ _ (c .before .before .before .loop .inv) (omega arith)
+    (sym (c .before .at-odds-with-earlier .ensures) ∙ c .if1 .left)
 
--- src/supply.rt:75:1
 returns-2 : tie.Need-returns-2 Inv-loop μ-loop
-returns-2 c = ?
+returns-2 c = agreeing-over _ _ _ (c .before .loop .inv) (omega arith)
 
 pub supply-at-odds-spec : {M : Type 1} → statement M
 supply-at-odds-spec =

@@ -1,5 +1,6 @@
 pub mod Lists
 pub mod Members
+pub mod RisingLaws
 pub mod Searches
 pub mod Tests
 pub mod Writers

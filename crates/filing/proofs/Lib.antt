@@ -1,1 +1,4 @@
 pub mod FilingLaws
+pub mod NumberLaws
+pub mod SupplyLaws
+pub mod UnitLaws

@@ -1,3 +1,4 @@
+pub mod Finds
 pub mod Lists
 pub mod Searches
 pub mod Tests

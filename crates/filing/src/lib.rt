@@ -1,1 +1,2 @@
 // What rows must be to each other.
+mod schedules;

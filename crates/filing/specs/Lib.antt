@@ -1,3 +1,4 @@
 pub mod Filing
+pub mod Gathered
 pub mod Schedules
 pub mod Supply

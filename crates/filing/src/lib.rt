@@ -1,2 +1,3 @@
 // What rows must be to each other.
+mod gather;
 mod schedules;

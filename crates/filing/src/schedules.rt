@@ -10,9 +10,9 @@ ghost use Rattle.tables.proofs.RowViews.{scheduleAt};
 ghost use Rattle.filing.specs.Schedules.{strange as Schedules·strange};
 
 // The cells of a row, and where in it the columns stand.
-const WIDTH: usize = 9;
+pub const WIDTH: usize = 9;
 
-const UNIT: usize = 0;
+pub const UNIT: usize = 0;
 
 // 7: the first row of a unit that is not among the first `count` units, counted from 1; 0 where
 // there is none.
@@ -32,7 +32,7 @@ pub fn strange(cells: &[u64], n: usize, units: &[u64], count: usize) -> usize
 }
 
 // The cell of a row in a column.
-fn cell(cells: &[u64], row: usize, column: usize) -> u64
+pub fn cell(cells: &[u64], row: usize, column: usize) -> u64
     requires { ⌜ row * 9 + 9 ≤ length (now cells) ⌝ }
     requires { ⌜ column < 9 ⌝ }
     ensures { λ r. ⌜ r ≡ getD (now (cells .entry)) (row * 9 + column) 0 ⌝ }

@@ -1,2 +1,3 @@
 pub mod GatherLaws
+pub mod OddsLaws
 pub mod ScheduleLaws

@@ -1,3 +1,4 @@
+pub mod Answers
 pub mod Filing
 pub mod Gathered
 pub mod Schedules

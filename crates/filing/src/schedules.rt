@@ -6,13 +6,29 @@ ghost use Prim.Native.Nat.{_+_, _*_, _≤_, _<_};
 ghost use lib.ListN.{length, getD, take};
 ghost use Rattle.base.specs.Rising.{among};
 ghost use Rattle.tables.specs.Rows.{scheduleRows};
-ghost use Rattle.tables.proofs.RowViews.{scheduleAt};
-ghost use Rattle.filing.specs.Schedules.{strange as Schedules·strange};
+ghost use Rattle.filing.specs.Answers.{lowestOf, hasRow};
+ghost use Rattle.filing.specs.Schedules.{strange as Schedules·strange, unscheduled as Schedules·unscheduled};
 
 // The cells of a row, and where in it the columns stand.
 pub const WIDTH: usize = 9;
 
 pub const UNIT: usize = 0;
+
+pub const SCHEDULE: usize = 1;
+
+pub const KIND: usize = 2;
+
+pub const HOUR: usize = 3;
+
+pub const STARTUP: usize = 7;
+
+pub const MINRUN: usize = 8;
+
+// The lowest unit at fault, if there is one.
+pub enum Lowest {
+    Number(u64),
+    Nothing,
+}
 
 // 7: the first row of a unit that is not among the first `count` units, counted from 1; 0 where
 // there is none.
@@ -29,6 +45,37 @@ pub fn strange(cells: &[u64], n: usize, units: &[u64], count: usize) -> usize
         k += 1;
     }
     0
+}
+
+// 8: the lowest of the first `count` units that has no row, where the units rise.
+pub fn unscheduled(cells: &[u64], n: usize, units: &[u64], count: usize) -> Lowest
+    requires { ⌜ n * 9 ≤ length (now cells) ⌝ }
+    requires { ⌜ count ≤ length (now units) ⌝ }
+    ensures { λ r. ⌜ r ≡ lowestOf (Schedules·unscheduled (take count (now (units .entry))) (scheduleRows n (now (cells .entry)))) ⌝ }
+{
+    let mut i = 0;
+    while i < count {
+        let unit = units[i];
+        if !has_row(cells, n, unit) {
+            return Lowest::Number(unit);
+        }
+        i += 1;
+    }
+    Lowest::Nothing
+}
+
+fn has_row(cells: &[u64], n: usize, unit: u64) -> bool
+    requires { ⌜ n * 9 ≤ length (now cells) ⌝ }
+    ensures { λ r. ⌜ r ≡ hasRow unit (scheduleRows n (now (cells .entry))) ⌝ }
+{
+    let mut k = 0;
+    while k < n {
+        if cell(cells, k, UNIT) == unit {
+            return true;
+        }
+        k += 1;
+    }
+    false
 }
 
 // The cell of a row in a column.

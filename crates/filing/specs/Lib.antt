@@ -2,6 +2,9 @@ pub mod Checks
 pub mod Filed
 pub mod Filing
 pub mod Numbers
+pub mod Answers
+pub mod Filing
+pub mod Gathered
 pub mod Schedules
 pub mod Supply
 pub mod SupplyPromises

@@ -10,3 +10,12 @@ pub use numbers::insert;
 pub use supply::Counts;
 pub use supply::crowd;
 pub use supply::supply_at_odds;
+mod gathering;
+mod odds;
+mod schedules;
+
+pub use gathering::gather;
+pub use odds::schedules_at_odds;
+pub use schedules::Lowest;
+pub use schedules::strange;
+pub use schedules::unscheduled;

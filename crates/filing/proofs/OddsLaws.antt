@@ -1,0 +1,128 @@
+-- Laws of rows at odds, over plain lists: a pair of rows, a row against those before it, and the first such row. Assumes
+-- nothing.
+use Prim.Native.Nat.{ℕ, zero, suc, _+_, _-_, _*_, _≤_, _<_}
+use mathlib.Core.Path.{_≡_, refl, sym, _∙_}
+use mathlib.Core.Bool.{Bool, true, false, not, _&&_, _||_, or-true, or-false}
+use mathlib.Core.List.{List, [], _∷_}
+use mathlib.Core.Option.{none, some, Option·getD}
+use native.Mathlib.Omega.{arith}
+use native.Mathlib.Numerals.{add-one}
+use lib.Dec.{eqb}
+use lib.ListN.{length, drop}
+use borrow.Author.Tests.{eq-eqb, ne-eqb}
+use Rattle.base.specs.Search.{any, firstAtOdds}
+use Rattle.base.proofs.Finds.{any-none, any-here, any-later}
+use Rattle.tables.specs.Rows.{ScheduleRow, scheduleRows}
+use Rattle.tables.specs.Table.{M}
+use Rattle.tables.proofs.RowViews.{scheduleAt, schedule-next}
+use Rattle.filing.specs.Answers.{earlier, alike, bothMarket}
+use Rattle.filing.specs.Schedules.{sameSchedule, unlike, repeats, secondM, scheduleOdds, schedulesAtOdds}
+use Rattle.filing.proofs.ScheduleLaws.{rows-end}
+
+-- two rows, by the tests in their order
+module _ (r e : ScheduleRow) where
+  pub odds-units : (r .unit ≡ e .unit → ⊥) → false ≡ scheduleOdds r e
+  unfolding sameSchedule unlike repeats secondM scheduleOdds
+  odds-units u = simp (ne-eqb (r .unit) (e .unit) u)
+
+  pub odds-schedules : r .unit ≡ e .unit → (r .schedule ≡ e .schedule → ⊥) → bothMarket r e ≡ scheduleOdds r e
+  unfolding sameSchedule unlike repeats secondM scheduleOdds bothMarket
+  odds-schedules u s = simp (eq-eqb (r .unit) (e .unit) u, ne-eqb (r .schedule) (e .schedule) s)
+
+  module _ (u : r .unit ≡ e .unit) (s : r .schedule ≡ e .schedule) where
+    pub odds-hours : r .hour ≡ e .hour → true ≡ scheduleOdds r e
+    unfolding sameSchedule unlike repeats secondM scheduleOdds alike
+    odds-hours h =
+        sym (simp (eq-eqb (r .unit) (e .unit) u, eq-eqb (r .schedule) (e .schedule) s, eq-eqb (r .hour) (e .hour) h, or-true, or-false))
+
+    pub odds-alike : (r .hour ≡ e .hour → ⊥) → not (alike r e) ≡ scheduleOdds r e
+    unfolding sameSchedule unlike repeats secondM scheduleOdds alike
+    odds-alike h =
+        sym (simp (eq-eqb (r .unit) (e .unit) u, eq-eqb (r .schedule) (e .schedule) s, ne-eqb (r .hour) (e .hour) h, or-false))
+
+  pub market-not : (r .kind ≡ M → ⊥) → false ≡ bothMarket r e
+  unfolding bothMarket
+  market-not k = simp (ne-eqb (r .kind) M k)
+
+  pub market-first : (x : ℕ) → r .kind ≡ M → x ≡ e .kind → eqb x M ≡ bothMarket r e
+  unfolding bothMarket
+  market-first x k is = rw is (simp (eq-eqb (r .kind) M k))
+
+  pub unlike-kinds : (r .kind ≡ e .kind → ⊥) → true ≡ not (alike r e)
+  unfolding alike
+  unlike-kinds k = simp (ne-eqb (r .kind) (e .kind) k)
+
+  module _ (k : r .kind ≡ e .kind) where
+    pub unlike-startups : (r .startup ≡ e .startup → ⊥) → true ≡ not (alike r e)
+    unfolding alike
+    unlike-startups s = simp (eq-eqb (r .kind) (e .kind) k, ne-eqb (r .startup) (e .startup) s)
+
+    pub unlike-minruns :
+        (x y : ℕ) → r .startup ≡ e .startup → x ≡ r .minrun → y ≡ e .minrun → not (eqb x y) ≡ not (alike r e)
+    unfolding alike
+    unlike-minruns x y s is is-e = rw (is, is-e) (simp (eq-eqb (r .kind) (e .kind) k, eq-eqb (r .startup) (e .startup) s))
+
+-- row k against the rows before it, of which j are left
+pub record Backward (cells : List ℕ) (k j : ℕ) : Type 0 where
+  pub upto : j ≤ k
+  pub rest : any (scheduleOdds (scheduleAt cells k)) (earlier cells k) ≡ any (scheduleOdds (scheduleAt cells k)) (earlier cells j)
+
+module _ (cells : List ℕ) (k : ℕ) where
+  pub backward-none : Backward cells k k
+  backward-none = record { upto = omega arith; rest = refl }
+
+  earlier-next : (j : ℕ) → 0 < j → earlier cells j ≡ scheduleAt cells (j - 1) ∷ earlier cells (j - 1)
+  unfolding earlier
+  earlier-next j h =
+      let one-less : j ≡ suc (j - 1) = omega arith in
+      rw one-less (rw less)
+    where
+      less : suc (j - 1) - 1 ≡ j - 1
+      less = omega arith
+
+  module _ (j : ℕ) (t : Bool) (l : Backward cells k j) (h : 0 < j) (is : t ≡ scheduleOdds (scheduleAt cells k) (scheduleAt cells (j - 1))) where
+    pub backward-here : t ≡ true → true ≡ any (scheduleOdds (scheduleAt cells k)) (earlier cells k)
+    backward-here e =
+        sym (l .rest ∙ rw (earlier-next j h) (any-here (scheduleOdds (scheduleAt cells k)) (scheduleAt cells (j - 1)) _ (sym is ∙ e)))
+
+    pub backward-next : t ≡ false → Backward cells k (j - 1)
+    backward-next e =
+        record {
+          upto = omega (arith, l .upto);
+          rest = l .rest ∙ rw (earlier-next j h) (any-later (scheduleOdds (scheduleAt cells k)) (scheduleAt cells (j - 1)) _ (sym is ∙ e));
+        }
+
+  pub backward-over : (j : ℕ) → Backward cells k j → j ≤ 0 → false ≡ any (scheduleOdds (scheduleAt cells k)) (earlier cells k)
+  unfolding earlier
+  backward-over j l h =
+      let none-left : j ≡ 0 = omega arith in
+      sym (l .rest ∙ rw none-left (any-none (scheduleOdds (scheduleAt cells k))))
+
+-- of n rows k are passed, none of them at odds
+pub record Agreeing (n : ℕ) (cells : List ℕ) (k : ℕ) : Type 0 where
+  pub upto : k ≤ n
+  pub rest :
+      schedulesAtOdds (scheduleRows n cells)
+      ≡ firstAtOdds scheduleOdds (earlier cells k) (suc k) (drop k (scheduleRows n cells))
+
+module _ (n : ℕ) (cells : List ℕ) where
+  pub agreeing-none : Agreeing n cells 0
+  unfolding schedulesAtOdds earlier
+  agreeing-none = record { upto = omega arith; rest = refl }
+
+  module _ (k : ℕ) (t : Bool) (l : Agreeing n cells k) (h : k < n) (is : t ≡ any (scheduleOdds (scheduleAt cells k)) (earlier cells k)) where
+    pub agreeing-here : t ≡ true → k + 1 ≡ Option·getD (schedulesAtOdds (scheduleRows n cells)) 0
+    unfolding firstAtOdds
+    agreeing-here e = rw (l .rest, schedule-next n cells k h, ← is, e) (add-one k)
+
+    pub agreeing-next : t ≡ false → Agreeing n cells (k + 1)
+    unfolding firstAtOdds earlier
+    agreeing-next e =
+        record {
+          upto = omega arith;
+          rest = l .rest ∙ rw (schedule-next n cells k h, ← is, e, add-one k);
+        }
+
+  pub agreeing-over : (k : ℕ) → Agreeing n cells k → n ≤ k → 0 ≡ Option·getD (schedulesAtOdds (scheduleRows n cells)) 0
+  unfolding firstAtOdds
+  agreeing-over k l h = rw (l .rest, rows-end n cells k h)

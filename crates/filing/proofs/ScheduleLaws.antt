@@ -1,0 +1,159 @@
+-- Laws of the searches over schedule rows, one for each step of a loop, over plain lists. Assumes nothing.
+use Prim.Native.Nat.{ℕ, zero, suc, _+_, _*_, _≤_, _<_}
+use mathlib.Core.Path.{_≡_, refl, sym, _∙_, ap}
+use mathlib.Core.Bool.{Bool, true, false, not, _||_}
+use mathlib.Core.List.{List, [], _∷_}
+use mathlib.Core.Option.{none, some, Option·getD}
+use native.Mathlib.Omega.{arith}
+use native.Mathlib.Numerals.{add-one}
+use lib.Dec.{eqb}
+use lib.ListN.{length, getD, take, drop}
+use lib.Seq.{getD-take, length-take-le}
+use borrow.Author.Tests.{eq-eqb, ne-eqb}
+use Rattle.base.specs.Rising.{among}
+use Rattle.base.specs.Search.{first, any, find}
+use Rattle.base.proofs.Finds.{any-none, any-here, any-later, find-none, find-here, find-later}
+use Rattle.base.proofs.Lists.{drop-next, drop-end}
+use Rattle.base.proofs.Searches.{first-none, first-here, first-later}
+use Rattle.tables.specs.Rows.{ScheduleRow, scheduleRows}
+use Rattle.tables.proofs.RowViews.{scheduleAt, schedule-next, schedule-length}
+use Rattle.filing.specs.Answers.{lowestOf, isOf, hasRow}
+use Rattle.filing.specs.Schedules.{strange}
+use Rattle.filing.specs.declared.schedules.Lowest.the-variants.{Number, Nothing}
+
+-- the first `count` of some numbers, of which i are passed
+pub record Listing (number : ℕ) (numbers : List ℕ) (count i : ℕ) : Type 0 where
+  pub within : count ≤ length numbers
+  pub upto : i ≤ count
+  pub rest : among number (take count numbers) ≡ among number (drop i (take count numbers))
+
+numbers-next :
+    (numbers : List ℕ) (count i : ℕ) → count ≤ length numbers → i < count →
+    drop i (take count numbers) ≡ getD numbers i 0 ∷ drop (i + 1) (take count numbers)
+numbers-next numbers count i w h =
+    drop-next 0 i (take count numbers) (rw (length-take-le count numbers w) h) ∙ rw (getD-take count numbers i 0 h)
+
+module _ (number : ℕ) (numbers : List ℕ) (count : ℕ) where
+  pub listing-none : count ≤ length numbers → Listing number numbers count 0
+  listing-none h = record { within = h; upto = omega arith; rest = refl }
+
+  pub listing-here :
+      (i : ℕ) → Listing number numbers count i → i < count → getD numbers i 0 ≡ number →
+      true ≡ among number (take count numbers)
+  unfolding among
+  listing-here i l h e =
+      sym (l .rest ∙ rw (numbers-next numbers count i (l .within) h, eq-eqb number (getD numbers i 0) (sym e)))
+
+  pub listing-next :
+      (i : ℕ) → Listing number numbers count i → i < count → (getD numbers i 0 ≡ number → ⊥) →
+      Listing number numbers count (i + 1)
+  unfolding among
+  listing-next i l h e =
+      record {
+        within = l .within;
+        upto = omega arith;
+        rest = l .rest ∙ rw (numbers-next numbers count i (l .within) h, ne-eqb number (getD numbers i 0) (λ s. e (sym s)));
+      }
+
+  pub listing-over :
+      (i : ℕ) → Listing number numbers count i → count ≤ i → false ≡ among number (take count numbers)
+  unfolding among
+  listing-over i l h =
+      sym (l .rest ∙ rw (drop-end i (take count numbers) (rw (length-take-le count numbers (l .within)) h)))
+
+-- n rows, of which k are passed
+module _ (n : ℕ) (cells : List ℕ) where
+  pub rows-end : (k : ℕ) → n ≤ k → drop k (scheduleRows n cells) ≡ []
+  rows-end k h = drop-end k (scheduleRows n cells) (rw (schedule-length n cells) h)
+
+-- whether one of n rows passes a test; k are passed, and none of them did
+pub record AnyRow (p : ScheduleRow → Bool) (n : ℕ) (cells : List ℕ) (k : ℕ) : Type 0 where
+  pub upto : k ≤ n
+  pub rest : any p (scheduleRows n cells) ≡ any p (drop k (scheduleRows n cells))
+
+module _ (p : ScheduleRow → Bool) (n : ℕ) (cells : List ℕ) where
+  pub any-row-none : AnyRow p n cells 0
+  any-row-none = record { upto = omega arith; rest = refl }
+
+  module _ (k : ℕ) (l : AnyRow p n cells k) (h : k < n) where
+    pub any-row-here : p (scheduleAt cells k) ≡ true → true ≡ any p (scheduleRows n cells)
+    any-row-here e = sym (l .rest ∙ rw (schedule-next n cells k h) (any-here p (scheduleAt cells k) _ e))
+
+    pub any-row-next : p (scheduleAt cells k) ≡ false → AnyRow p n cells (k + 1)
+    any-row-next e =
+        record {
+          upto = omega arith;
+          rest = l .rest ∙ rw (schedule-next n cells k h) (any-later p (scheduleAt cells k) _ e);
+        }
+
+  pub any-row-over : (k : ℕ) → AnyRow p n cells k → n ≤ k → false ≡ any p (scheduleRows n cells)
+  any-row-over k l h = sym (l .rest ∙ rw (rows-end n cells k h) (any-none p))
+
+-- the next row, of the unit x
+module _ (u n : ℕ) (cells : List ℕ) (k x : ℕ) (l : AnyRow (isOf u) n cells k) (h : k < n) (is : x ≡ getD cells (k * 9 + 0) 0) where
+  pub has-row-here : x ≡ u → true ≡ hasRow u (scheduleRows n cells)
+  has-row-here e = any-row-here (isOf u) n cells k l h (eq-eqb (getD cells (k * 9 + 0) 0) u (sym is ∙ e))
+
+  pub has-row-next : (x ≡ u → ⊥) → AnyRow (isOf u) n cells (k + 1)
+  has-row-next e = any-row-next (isOf u) n cells k l h (ne-eqb (getD cells (k * 9 + 0) 0) u (λ o. e (is ∙ o)))
+
+-- the first of `count` numbers that passes a test; i are passed, and none of them did
+pub record Finding (p : ℕ → Bool) (numbers : List ℕ) (count i : ℕ) : Type 0 where
+  pub within : count ≤ length numbers
+  pub upto : i ≤ count
+  pub rest : find p (take count numbers) ≡ find p (drop i (take count numbers))
+
+module _ (p : ℕ → Bool) (numbers : List ℕ) (count : ℕ) where
+  pub finding-none : count ≤ length numbers → Finding p numbers count 0
+  finding-none h = record { within = h; upto = omega arith; rest = refl }
+
+  module _ (i : ℕ) (t : Bool) (l : Finding p numbers count i) (h : i < count) (is : t ≡ p (getD numbers i 0)) where
+    pub finding-here : t ≡ true → Number (getD numbers i 0) ≡ lowestOf (find p (take count numbers))
+    finding-here e =
+        rw (l .rest, numbers-next numbers count i (l .within) h, find-here p (getD numbers i 0) (drop (i + 1) (take count numbers)) (sym is ∙ e))
+
+    pub finding-next : t ≡ false → Finding p numbers count (i + 1)
+    finding-next e =
+        record {
+          within = l .within;
+          upto = omega arith;
+          rest = l .rest ∙ rw (numbers-next numbers count i (l .within) h) (find-later p (getD numbers i 0) _ (sym is ∙ e));
+        }
+
+  pub finding-over : (i : ℕ) → Finding p numbers count i → count ≤ i → Nothing ≡ lowestOf (find p (take count numbers))
+  finding-over i l h =
+      rw (l .rest, drop-end i (take count numbers) (rw (length-take-le count numbers (l .within)) h), find-none p)
+
+-- the rows that are passed are of known units
+pub record Known (n : ℕ) (cells us : List ℕ) (k : ℕ) : Type 0 where
+  pub upto : k ≤ n
+  pub rest :
+      strange us (scheduleRows n cells)
+      ≡ first (λ (r : ScheduleRow). not (among (r .unit) us)) (suc k) (drop k (scheduleRows n cells))
+
+module _ (n : ℕ) (cells us : List ℕ) where
+  abbrev stranger : ScheduleRow → Bool
+  stranger r = not (among (r .unit) us)
+
+  pub known-none : Known n cells us 0
+  unfolding strange
+  known-none = record { upto = omega arith; rest = refl }
+
+  -- the next row's unit is u, and t says whether it is known
+  module _ (k u : ℕ) (t : Bool) (l : Known n cells us k) (h : k < n) (is : u ≡ getD cells (k * 9 + 0) 0) (said : t ≡ among u us) where
+    pub known-here : not t ≡ true → k + 1 ≡ Option·getD (strange us (scheduleRows n cells)) 0
+    known-here e =
+        let strange-row : stranger (scheduleAt cells k) ≡ true = rw (← is, ← said) e in
+        rw (l .rest, schedule-next n cells k h, first-here stranger (suc k) (scheduleAt cells k) (drop (k + 1) (scheduleRows n cells)) strange-row)
+        (add-one k)
+
+    pub known-next : not t ≡ false → Known n cells us (k + 1)
+    known-next e =
+        let known-row : stranger (scheduleAt cells k) ≡ false = rw (← is, ← said) e in
+        record {
+          upto = omega arith;
+          rest = l .rest ∙ rw (schedule-next n cells k h, add-one k) (first-later stranger (suc k) (scheduleAt cells k) _ known-row);
+        }
+
+  pub known-over : (k : ℕ) → Known n cells us k → n ≤ k → 0 ≡ Option·getD (strange us (scheduleRows n cells)) 0
+  known-over k l h = rw (l .rest, rows-end n cells k h, first-none stranger (suc k))

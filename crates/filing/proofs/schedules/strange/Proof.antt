@@ -1,0 +1,64 @@
+-- The first row of a unit that is not in supply. Assumes nothing.
+use Prim.Native.Nat.{_-_, _*_, _+_}
+use mathlib.Core.Path.{_≡_}
+use mathlib.Core.Bool.{true, false}
+use native.Mathlib.Omega.{arith}
+use borrow.Author.Needs.{needs}
+use lib.ListN.{getD, take}
+use Rattle.base.specs.Rising.{among}
+use Rattle.filing.proofs.ScheduleLaws.{Known, known-none, known-here, known-next, known-over}
+use Rattle.filing.proofs.schedules.strange.Statement.{statement}
+use Rattle.filing.proofs.schedules.strange.Tie as tie
+use Rattle.filing.proofs.schedules.strange.Reads as reads
+use Rattle.filing.proofs.schedules.strange.Lts as lts
+use Rattle.filing.proofs.schedules.cell.Reads as cell-reads
+use Rattle.filing.proofs.schedules.is_listed.Reads as is-listed-reads
+
+abbrev Inv-loop : tie.InvT-loop
+Inv-loop cells n units count k₀ k = Known n cells (take count units) k
+
+abbrev μ-loop : tie.MeasureT-loop
+μ-loop cells n units count k₀ k = n - k
+
+loop-holds : tie.Need-loop-holds Inv-loop μ-loop
+loop-holds c = known-none _ _ _
+
+cell-requires : tie.Need-cell-requires Inv-loop μ-loop
+cell-requires c κs = omega arith
+
+is-listed-requires : tie.Need-is-listed-requires Inv-loop μ-loop
+is-listed-requires c κs = search needs
+
+add-result : tie.Need-add-result Inv-loop μ-loop
+add-result c = omega arith
+
+returns : tie.Need-returns Inv-loop μ-loop
+returns c = known-here _ _ _ _ _ _ (c .before .before .before .before .loop .inv) (omega arith) (c .before .before .cell .ensures) (c .before .is-listed .ensures) (c .if1 .taken)
+
+add-k : tie.Need-add-k Inv-loop μ-loop
+add-k c = omega arith
+
+loop-less : tie.Need-loop-less Inv-loop μ-loop
+loop-less c = omega arith
+
+loop-again : tie.Need-loop-again Inv-loop μ-loop
+loop-again c = known-next _ _ _ _ _ _ (c .before .before .before .before .loop .inv) (omega arith) (c .before .before .cell .ensures) (c .before .is-listed .ensures) (c .if1 .left)
+
+returns-2 : tie.Need-returns-2 Inv-loop μ-loop
+returns-2 c = known-over _ _ _ _ (c .before .loop .inv) (omega arith)
+
+pub strange-spec : {M : Type 1} → statement M
+strange-spec =
+    tie.close
+    (tie.spec
+    Inv-loop
+    μ-loop
+    loop-holds
+    cell-requires
+    is-listed-requires
+    add-result
+    returns
+    add-k
+    loop-less
+    loop-again
+    returns-2)

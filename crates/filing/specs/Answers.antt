@@ -1,0 +1,37 @@
+-- What the searches over schedule rows answer and go by. Assumes nothing.
+use Prim.Native.Nat.{ℕ, zero, suc}
+use mathlib.Core.Bool.{Bool, _&&_}
+use mathlib.Core.List.{List, [], _∷_}
+use mathlib.Core.Option.{Option, none, some}
+use lib.Dec.{eqb}
+use Rattle.base.specs.Search.{any}
+use Rattle.tables.specs.Rows.{ScheduleRow}
+use Rattle.tables.specs.Table.{M}
+use Rattle.tables.proofs.RowViews.{scheduleAt}
+use Rattle.filing.specs.declared.schedules.Lowest.{Lowest}
+use Rattle.filing.specs.declared.schedules.Lowest.the-variants.{Number, Nothing}
+
+-- the lowest unit at fault, as the code answers it
+abbrev pub lowestOf : Option ℕ → Lowest
+lowestOf none = Nothing
+lowestOf (some u) = Number u
+
+-- the rows before row k of a run, the last first
+unfoldable pub earlier : List ℕ → ℕ → List ScheduleRow
+earlier cells zero = []
+earlier cells (suc k) = scheduleAt cells k ∷ earlier cells k
+
+-- whether two rows are alike in what rows of one schedule share
+unfoldable pub alike : ScheduleRow → ScheduleRow → Bool
+alike r e = eqb (r .kind) (e .kind) && eqb (r .startup) (e .startup) && eqb (r .minrun) (e .minrun)
+
+-- whether both are market-based
+unfoldable pub bothMarket : ScheduleRow → ScheduleRow → Bool
+bothMarket r e = eqb (r .kind) M && eqb (e .kind) M
+
+-- whether a row is of a unit, and whether one of some rows is
+abbrev pub isOf : ℕ → ScheduleRow → Bool
+isOf u r = eqb (r .unit) u
+
+abbrev pub hasRow : ℕ → List ScheduleRow → Bool
+hasRow u rs = any (isOf u) rs

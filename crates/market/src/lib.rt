@@ -10,6 +10,7 @@ mod rows;
 
 pub use clearing::clearing_row;
 pub use clearing::eligible_supply;
+pub use clearing::need_of;
 pub use offer::capped;
 pub use parties::add_amounts;
 pub use parties::list_parties;

@@ -1,6 +1,6 @@
 -- The party of a row. Assumes nothing.
 use Prim.Native.Nat.{_*_}
-use mathlib.Core.Path.{sym}
+use native.Mathlib.Omega.{arith}
 use lib.Seq.{getD-drop}
 use Rattle.market.specs.Parties.{party}
 use borrow.Author.Needs.{needs}
@@ -21,7 +21,7 @@ shared-slice-read-result c = search needs
 
 returns : tie.Need-returns
 unfolding party
-returns c = sym (getD-drop (c .before .args .row * 5) (c .before .args .cells .now) 1 0)
+returns c = omega (arith, getD-drop (c .before .args .row * 5) (c .before .args .cells .now) 1 0)
 
 pub party-spec : {M : Type 1} → statement M
 party-spec =

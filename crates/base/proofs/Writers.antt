@@ -1,9 +1,11 @@
--- Laws of writers: two writes, one behind the other, are one. Assumes nothing.
-use Prim.Native.Nat.{ℕ, _+_}
+-- Laws of writers: two writes, one behind the other, are one, and a longer text written over a shorter one leaves nothing of
+-- it. Assumes nothing.
+use Prim.Native.Nat.{ℕ, _+_, _-_, _≤_}
 use mathlib.Core.Path.{_≡_, refl, sym, _∙_}
 use mathlib.Core.List.{List, _++_, append-assoc}
+use native.Mathlib.Omega.{arith}
 use lib.ListN.{length, take, drop, length-append}
-use lib.Seq.{drop-drop, take-append-seam, drop-append-seam}
+use lib.Seq.{drop-drop, take-append-seam, drop-append-seam, drop-append-add, take-at}
 use Rattle.base.specs.Writing.{Wrote}
 
 joined :
@@ -21,3 +23,19 @@ wrote-then {a} {b} {old} {mid} {part} {new} {m} {n} u v e =
       counted = rw (u .counted, v .counted) (sym (length-append a b));
       written = e ∙ rw (v .written, u .counted, u .written) (joined a b old);
     }
+
+behind : (a old : List ℕ) (k : ℕ) → length a ≤ k → drop k (a ++ drop (length a) old) ≡ drop k old
+behind a old k h =
+    let split : k ≡ length a + (k - length a) = omega arith in
+    rw split (drop-append-add a (drop (length a) old) (k - length a) ∙ drop-drop (k - length a) (length a) old)
+
+-- what stands at the start
+pub wrote-front : {text old new : List ℕ} {m : ℕ} → Wrote text m old new → take m new ≡ text
+wrote-front {text} {old} {new} {m} w =
+    rw (w .written) (take-at text (drop (length text) old) m (sym (w .counted)))
+
+-- a second text is written over the first, and is no shorter
+pub wrote-over :
+    {a b old mid new : List ℕ} {m n : ℕ} → Wrote a m old mid → length a ≤ length b → Wrote b n mid new → Wrote b n old new
+wrote-over {a} {b} {old} u h v =
+    record { counted = v .counted; written = v .written ∙ rw (u .written, behind a old (length b) h) }

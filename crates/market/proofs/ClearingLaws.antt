@@ -9,7 +9,7 @@ use mathlib.Core.Option.{Option, none, some, Option·getD}
 use native.Mathlib.Omega.{arith}
 use lib.Dec.{leb, ltb}
 use lib.ListN.{length, getD}
-use borrow.Author.Tests.{le-leb, leb-true, lt-ltb, ltb-true}
+use borrow.Author.Tests.{le-leb, leb-true, lt-ltb, le-ltb, ltb-true, ltb-false}
 use Rattle.base.specs.Search.{first}
 use Rattle.base.proofs.Tests.{false-true, either, lt-or-ge, and-fst, and-snd}
 use Rattle.base.proofs.Members.{Lowest, lowest, Finds, it, nothing, finds, member-at}
@@ -181,6 +181,16 @@ module _ (cutoff need : ℕ) (rows : List SupplyRow) (positive : 0 < cutoff) whe
             let d = dearest (eligible cutoff) (λ r e. e) (omega arith) in
             false-true (sym (n (d .it) (d .a-member)) ∙ dearest-reaches (eligible cutoff) (λ r e. e) h d)
 
+-- a row clears exactly when eligible supply is not short of the need
+pub clears-exactly :
+    (cutoff need : ℕ) (rows : List SupplyRow) → 0 < cutoff → 0 < need →
+    (short cutoff need rows ≡ false) ↔ ((q : SupplyRow) × Clears cutoff need rows q)
+unfolding short
+clears-exactly cutoff need rows positive some-need = (
+  λ e. clears-exists cutoff need rows positive some-need (ltb-false (eligibleSupply cutoff rows) need e),
+  λ c. le-ltb (eligibleSupply cutoff rows) need (clears-enough cutoff need rows (c .0) (c .1)),
+)
+
 -- what the search for a clearing row finds
 module _ (cutoff need : ℕ) (rows : List SupplyRow) where
   found :
@@ -196,11 +206,11 @@ module _ (cutoff need : ℕ) (rows : List SupplyRow) where
 
   -- a clearing row, where eligible supply is not short of the need
   pub clearing-clears :
-      0 < cutoff → 0 < need → need ≤ eligibleSupply cutoff rows →
+      0 < cutoff → 0 < need → short cutoff need rows ≡ false →
       (clearing cutoff need rows < length rows) × Clears cutoff need rows (clearingRow cutoff need rows)
   unfolding clearing clearingRow
-  clearing-clears positive some-need h =
-      found (clears-exists cutoff need rows positive some-need h) (finds noRow (clears cutoff need rows) 0 rows)
+  clearing-clears positive some-need e =
+      found (clears-exactly cutoff need rows positive some-need .0 e) (finds noRow (clears cutoff need rows) 0 rows)
 
   not-found :
       {o : Option ℕ} → eligibleSupply cutoff rows < need → Finds noRow (clears cutoff need rows) 0 rows o →
@@ -211,6 +221,6 @@ module _ (cutoff need : ℕ) (rows : List SupplyRow) where
   not-found h (nothing n) = refl
 
   -- and none, where it is
-  pub clearing-none : eligibleSupply cutoff rows < need → clearing cutoff need rows ≡ length rows
-  unfolding clearing
-  clearing-none h = not-found h (finds noRow (clears cutoff need rows) 0 rows)
+  pub clearing-none : short cutoff need rows ≡ true → clearing cutoff need rows ≡ length rows
+  unfolding clearing short
+  clearing-none e = not-found (ltb-true (eligibleSupply cutoff rows) need e) (finds noRow (clears cutoff need rows) 0 rows)

@@ -1,5 +1,10 @@
+pub mod CellLaws
 pub mod ClearingLaws
 pub mod DistinctLaws
 pub mod LeastOverRows
+pub mod ListingLaws
+pub mod PartLaws
 pub mod PartyLaws
+pub mod RangeLaws
 pub mod SupplyLaws
+pub mod TryLaws

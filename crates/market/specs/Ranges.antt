@@ -1,11 +1,14 @@
--- What the code assumes of supply rows that it is lent as cells: that the table permits them, so that sums and products fit.
--- Assumes nothing itself.
+-- What the code assumes of a relief and of supply rows that it is lent as cells: that the table permits them, so that sums
+-- and products fit. Assumes nothing itself.
 use Prim.Native.Nat.{ℕ, _+_, _*_, _≤_}
 use mathlib.Core.List.{List, List·Memᴰ}
 use lib.ListN.{length, drop}
 use Rattle.tables.specs.Table.{Column, columnAt, firstColumn, table}
 use Rattle.tables.specs.Rows.{SupplyRow, supplyRow, supplyRows}
-use Rattle.tables.specs.declared.files.File.the-variants.{Supply}
+use Rattle.tables.specs.declared.files.File.the-variants.{Constraint, Supply}
+
+abbrev pub mostRelief : ℕ
+mostRelief = columnAt (firstColumn Constraint + 1) .maximum
 
 -- a column of supply in the table
 abbrev pub supplyColumn : ℕ → Column

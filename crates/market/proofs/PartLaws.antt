@@ -1,0 +1,51 @@
+-- Laws of adding up the supply of a part, row by row, over plain lists. Assumes nothing.
+use Prim.Native.Nat.{ℕ, _+_, _*_, _^_, _≤_, _<_}
+use mathlib.Core.Path.{_≡_, refl}
+use mathlib.Core.Bool.{Bool, cond}
+use mathlib.Core.List.{List}
+use native.Mathlib.Omega.{arith}
+use lib.ListN.{drop}
+use Rattle.tables.specs.Rows.{SupplyRow, supplyRows}
+use Rattle.market.specs.Supply.{supply, supplyOf}
+use Rattle.market.specs.Ranges.{SupplyCells, cellsRow}
+use Rattle.market.proofs.RangeLaws.{mostSupply, part-small, supply-small}
+use Rattle.market.proofs.CellLaws.{rows-next, rows-end, row-cells}
+
+-- of n rows the first i have been added up, as far as they pass a test
+pub record Adding (n : ℕ) (cells : List ℕ) (p : SupplyRow → Bool) (i sum : ℕ) : Type 0 where
+  pub upto : i ≤ n
+  pub bounded : sum ≤ i * mostSupply
+  pub added : supplyOf p (supplyRows n cells) ≡ sum + supplyOf p (drop i (supplyRows n cells))
+
+module _ (n : ℕ) (cells : List ℕ) (p : SupplyRow → Bool) where
+  pub adding-none : Adding n cells p 0 0
+  adding-none = record { upto = omega arith; bounded = omega arith; added = omega arith }
+
+  -- the next row, which adds a
+  module _
+      (i sum a : ℕ) (s : SupplyCells n cells) (h : i < n)
+      (e : a ≡ cond (p (cellsRow cells i)) (supply (cellsRow cells i)) 0) (so-far : Adding n cells p i sum)
+    where
+      small : a ≤ mostSupply
+      small = rw e (part-small (p (cellsRow cells i)) _ (supply-small (cellsRow cells i) (row-cells n cells i s h .permitted)))
+
+      pub adding-fits : sum + a < 2 ^ 64
+      adding-fits = omega (arith, small, so-far .bounded, s .few)
+
+      next : supplyOf p (drop i (supplyRows n cells)) ≡ a + supplyOf p (drop (i + 1) (supplyRows n cells))
+      unfolding supplyOf
+      next = rw (rows-next n cells i h, e)
+
+      pub adding-next : Adding n cells p (i + 1) (sum + a)
+      adding-next =
+          record {
+            upto = omega arith;
+            bounded = omega (arith, small, so-far .bounded);
+            added = omega (arith, so-far .added, next);
+          }
+
+  pub adding-over : (i sum : ℕ) → n ≤ i → Adding n cells p i sum → sum ≡ supplyOf p (supplyRows n cells)
+  unfolding supplyOf
+  adding-over i sum h so-far =
+      let none : supplyOf p (drop i (supplyRows n cells)) ≡ 0 = rw (rows-end n cells i h) in
+      omega (arith, so-far .added, none)

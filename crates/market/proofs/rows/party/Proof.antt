@@ -1,0 +1,28 @@
+-- The party of a row. Assumes nothing.
+use Prim.Native.Nat.{_*_}
+use native.Mathlib.Omega.{arith}
+use lib.Seq.{getD-drop}
+use Rattle.market.specs.Parties.{party}
+use borrow.Author.Needs.{needs}
+use Rattle.market.proofs.rows.party.Statement.{statement}
+use Rattle.market.proofs.rows.party.Tie as tie
+
+mul-result : tie.Need-mul-result
+mul-result c = search needs
+
+add-result : tie.Need-add-result
+add-result c = search needs
+
+mul-result-2 : tie.Need-mul-result-2
+mul-result-2 c = search needs
+
+shared-slice-read-result : tie.Need-shared-slice-read-result
+shared-slice-read-result c = search needs
+
+returns : tie.Need-returns
+unfolding party
+returns c = omega (arith, getD-drop (c .before .args .row * 5) (c .before .args .cells .now) 1 0)
+
+pub party-spec : {M : Type 1} → statement M
+party-spec =
+    tie.close (tie.spec mul-result add-result mul-result-2 shared-slice-read-result returns)

@@ -1,0 +1,97 @@
+// Parts of the supply rows, and the effective supply of a part, added up. One loop adds up every
+// part that the market asks for.
+ghost use mathlib.Core.Path.{_≡_};
+ghost use mathlib.Core.Bool.{cond};
+ghost use Rattle.tables.specs.Rows.{supplyRows};
+ghost use Rattle.market.specs.Ranges.{RowCells, SupplyCells, cellsRow};
+ghost use Rattle.market.specs.Supply.{supply, supplyOf};
+ghost use Rattle.market.specs.Clearing.{eligibleUpTo, eligibleBelow};
+ghost use Rattle.market.specs.Parties.{relevantOf};
+ghost use Rattle.market.specs.Parts.{PartCells, inPart};
+use crate::relevant::is_relevant;
+use crate::rows::cost_beside;
+use crate::rows::effective_supply;
+use crate::rows::is_eligible;
+use crate::rows::party;
+
+// The eligible rows; those at or below the cost of the row at a place; those strictly below it; and
+// the relevant ones of a party, where the row at a place clears.
+pub enum Part {
+    Eligible,
+    UpTo(usize),
+    Below(usize),
+    RelevantOf(usize, u64),
+}
+
+// The effective supply of a part of the first `n` rows.
+pub fn supply_of(cells: &[u64], n: usize, cutoff: u64, part: Part) -> u64
+    requires { ⌜ SupplyCells n (now cells) ⌝ }
+    requires { ⌜ PartCells (now cells) part ⌝ }
+    ensures { λ r. ⌜ r ≡ supplyOf (inPart (now (cells .entry)) cutoff part) (supplyRows n (now (cells .entry))) ⌝ }
+{
+    let mut sum = 0;
+    let mut row = 0;
+    while row < n {
+        sum += supply_in(cells, row, cutoff, part);
+        row += 1;
+    }
+    sum
+}
+
+// What a row adds to a part.
+fn supply_in(cells: &[u64], row: usize, cutoff: u64, part: Part) -> u64
+    requires { ⌜ RowCells (now cells) row ⌝ }
+    requires { ⌜ PartCells (now cells) part ⌝ }
+    ensures { λ r. ⌜ r ≡ cond (inPart (now (cells .entry)) cutoff part (cellsRow (now (cells .entry)) row)) (supply (cellsRow (now (cells .entry)) row)) 0 ⌝ }
+{
+    if is_in(cells, row, cutoff, part) {
+        return effective_supply(cells, row);
+    }
+    0
+}
+
+fn is_in(cells: &[u64], row: usize, cutoff: u64, part: Part) -> bool
+    requires { ⌜ RowCells (now cells) row ⌝ }
+    requires { ⌜ PartCells (now cells) part ⌝ }
+    ensures { λ r. ⌜ r ≡ inPart (now (cells .entry)) cutoff part (cellsRow (now (cells .entry)) row) ⌝ }
+{
+    match part {
+        Part::Eligible => is_eligible(cells, row, cutoff),
+        Part::UpTo(limit) => is_up_to(cells, row, limit, cutoff),
+        Part::Below(limit) => is_below(cells, row, limit, cutoff),
+        Part::RelevantOf(clearing, party) => is_relevant_of(cells, row, clearing, cutoff, party),
+    }
+}
+
+fn is_up_to(cells: &[u64], row: usize, limit: usize, cutoff: u64) -> bool
+    requires { ⌜ RowCells (now cells) row ⌝ }
+    requires { ⌜ RowCells (now cells) limit ⌝ }
+    ensures { λ r. ⌜ r ≡ eligibleUpTo cutoff (cellsRow (now (cells .entry)) limit) (cellsRow (now (cells .entry)) row) ⌝ }
+{
+    if is_eligible(cells, row, cutoff) {
+        return cost_beside(cells, limit, row) <= cost_beside(cells, row, limit);
+    }
+    false
+}
+
+fn is_below(cells: &[u64], row: usize, limit: usize, cutoff: u64) -> bool
+    requires { ⌜ RowCells (now cells) row ⌝ }
+    requires { ⌜ RowCells (now cells) limit ⌝ }
+    ensures { λ r. ⌜ r ≡ eligibleBelow cutoff (cellsRow (now (cells .entry)) limit) (cellsRow (now (cells .entry)) row) ⌝ }
+{
+    if is_eligible(cells, row, cutoff) {
+        return cost_beside(cells, limit, row) < cost_beside(cells, row, limit);
+    }
+    false
+}
+
+fn is_relevant_of(cells: &[u64], row: usize, clearing: usize, cutoff: u64, k: u64) -> bool
+    requires { ⌜ RowCells (now cells) row ⌝ }
+    requires { ⌜ RowCells (now cells) clearing ⌝ }
+    ensures { λ r. ⌜ r ≡ relevantOf cutoff (cellsRow (now (cells .entry)) clearing) k (cellsRow (now (cells .entry)) row) ⌝ }
+{
+    if is_relevant(cells, row, clearing, cutoff) {
+        return party(cells, row) == k;
+    }
+    false
+}

@@ -1,7 +1,7 @@
 pub mod FilingLaws
-pub mod NumberLaws
-pub mod SupplyLaws
-pub mod UnitLaws
 pub mod GatherLaws
+pub mod NumberLaws
 pub mod OddsLaws
 pub mod ScheduleLaws
+pub mod SupplyLaws
+pub mod UnitLaws

@@ -1,10 +1,9 @@
+pub mod Answers
 pub mod Checks
 pub mod Filed
 pub mod Filing
-pub mod Numbers
-pub mod Answers
-pub mod Filing
 pub mod Gathered
+pub mod Numbers
 pub mod Schedules
 pub mod Supply
 pub mod SupplyPromises

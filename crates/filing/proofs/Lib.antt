@@ -1,3 +1,4 @@
 pub mod GatherLaws
 pub mod OddsLaws
+pub mod RunLaws
 pub mod ScheduleLaws

@@ -1,3 +1,4 @@
+pub mod Elements
 pub mod Finds
 pub mod Lists
 pub mod Members

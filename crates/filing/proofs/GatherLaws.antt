@@ -2,22 +2,20 @@
 use Prim.Native.Nat.{ℕ, zero, suc, _+_, _*_, _≤_, _<_}
 use mathlib.Core.Path.{_≡_, refl, sym, _∙_, ap}
 use mathlib.Core.Logic.{⊎-elim}
-use mathlib.Core.Bool.{Bool, true, false, cond}
+use mathlib.Core.Bool.{Bool, true, false}
 use mathlib.Core.List.{List, [], _∷_, _++_, append-assoc, append-nil}
 use native.Mathlib.Omega.{arith}
 use native.Mathlib.Nat.{add-suc}
 use native.Mathlib.Numerals.{add-one}
 use lib.Dec.{eqb}
 use lib.ListN.{length, getD, take, drop, set, length-drop, length-set, take-append-drop}
-use lib.Seq.{drop-cons, drop-drop, getD-drop, length-take-le, paste, paste-zero, paste-suc, length-paste, take-paste, drop-paste}
+use lib.Seq.{drop-cons, drop-drop, getD-drop, paste, paste-zero, paste-suc, length-paste, take-paste, drop-paste}
 use borrow.Author.Tests.{eq-eqb, ne-eqb}
-use Rattle.base.specs.Search.{one}
 use Rattle.base.proofs.Finds.{those-none, those-here, those-later}
-use Rattle.base.proofs.Lists.{drop-end}
 use Rattle.base.proofs.Searches.{one-le}
 use Rattle.base.proofs.Tests.{either}
 use Rattle.tables.specs.Rows.{ScheduleRow, rowsOf, scheduleRows}
-use Rattle.tables.proofs.RowViews.{scheduleAt, schedule-next, schedule-length}
+use Rattle.tables.proofs.RowViews.{scheduleAt, schedule-next}
 use Rattle.filing.specs.Schedules.{own}
 use Rattle.filing.specs.Gathered.{Gathered, RowGathered, rowCells, copied}
 use Rattle.filing.proofs.ScheduleLaws.{rows-end}
@@ -51,8 +49,8 @@ module _ (cells : List ℕ) (k : ℕ) (old : List ℕ) where
         room = l .room;
         same-length = length-set new (r * 9 + c) x ∙ l .same-length;
         pasted =
-          rw (l .pasted, e, add-one c, ← getD-drop (k * 9) cells c 0)
-          (paste-suc old (r * 9) (drop (k * 9) cells) c 0 (omega (arith, l .room)) (omega (arith, l .inside, length-drop (k * 9) cells)));
+            rw (l .pasted, e, add-one c, ← getD-drop (k * 9) cells c 0)
+            (paste-suc old (r * 9) (drop (k * 9) cells) c 0 (omega (arith, l .room)) (omega (arith, l .inside, length-drop (k * 9) cells)));
       }
 
   pub copying-over : (new : List ℕ) (r c : ℕ) → Copying cells k old new r c → 9 ≤ c → new ≡ copied cells k old r
@@ -80,7 +78,7 @@ unfolding rowCells cellsFrom
 row-cells cs k rs h =
     let start : k * 9 ≡ k * 9 + 0 = omega arith in
     let by-place : take 9 (drop (k * 9) cs) ≡ cellsFrom cs (k * 9) 0 9 =
-        ap (λ (i : ℕ). take 9 (drop i cs)) start ∙ cells-from cs (k * 9) 0 9 (omega arith)
+    ap (λ (i : ℕ). take 9 (drop i cs)) start ∙ cells-from cs (k * 9) 0 9 (omega arith)
     in
     rw by-place
 
@@ -148,12 +146,12 @@ module _ (u n : ℕ) (cells old : List ℕ) where
           same-length = length-paste new (r * 9) row 9 new-room row-long ∙ l .same-length;
           counted = l .counted ∙ rw own-next (omega arith);
           laid =
-            l .laid
-            ∙ rw (own-next, row-cells cells k (own u (rest (k + 1))) (omega (arith, l .inside)), further, take-paste new (r * 9) row 9 (omega arith) row-long)
-            (sym (append-assoc (take (r * 9) new) (take 9 row) _));
+              l .laid
+              ∙ rw (own-next, row-cells cells k (own u (rest (k + 1))) (omega (arith, l .inside)), further, take-paste new (r * 9) row 9 (omega arith) row-long)
+              (sym (append-assoc (take (r * 9) new) (take 9 row) _));
           kept =
-            rw (further, drop-paste new (r * 9) row 9 (omega arith) row-long)
-            (sym (drop-drop 9 (r * 9) new) ∙ ap (drop 9) (l .kept) ∙ drop-drop 9 (r * 9) old);
+              rw (further, drop-paste new (r * 9) row 9 (omega arith) row-long)
+              (sym (drop-drop 9 (r * 9) new) ∙ ap (drop 9) (l .kept) ∙ drop-drop 9 (r * 9) old);
         }
       where
         row : List ℕ

@@ -4,6 +4,8 @@ pub mod Filed
 pub mod Filing
 pub mod Gathered
 pub mod Numbers
+pub mod Ranges
+pub mod Runs
 pub mod Schedules
 pub mod Supply
 pub mod SupplyPromises

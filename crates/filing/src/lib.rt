@@ -4,6 +4,7 @@ mod files;
 mod gathering;
 mod numbers;
 mod odds;
+mod runs;
 mod schedules;
 mod supply;
 

@@ -4,9 +4,6 @@ use native.Mathlib.Omega.{arith}
 use Rattle.filing.proofs.GatherLaws.{Copying, copying-none, copying-next, copying-over}
 use Rattle.filing.proofs.gathering.copy_row.Statement.{statement}
 use Rattle.filing.proofs.gathering.copy_row.Tie as tie
-use Rattle.filing.proofs.gathering.copy_row.Reads as reads
-use Rattle.filing.proofs.gathering.copy_row.Lts as lts
-use Rattle.filing.proofs.schedules.cell.Reads as cell-reads
 
 abbrev Inv-loop : tie.InvT-loop
 Inv-loop cells k out₀ r c₀ out c = Copying cells k out₀ out r c

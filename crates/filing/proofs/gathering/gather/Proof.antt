@@ -4,9 +4,6 @@ use native.Mathlib.Omega.{arith}
 use Rattle.filing.proofs.GatherLaws.{row-most, Gathering, gathering-none, gathering-next, gathering-over}
 use Rattle.filing.proofs.gathering.gather.Statement.{statement}
 use Rattle.filing.proofs.gathering.gather.Tie as tie
-use Rattle.filing.proofs.gathering.gather.Reads as reads
-use Rattle.filing.proofs.gathering.gather.Lts as lts
-use Rattle.filing.proofs.gathering.gather_row.Reads as gather-row-reads
 
 abbrev Inv-loop : tie.InvT-loop
 Inv-loop cells n unit out₀ r₀ k₀ out r k = Gathering unit n cells out₀ out r k

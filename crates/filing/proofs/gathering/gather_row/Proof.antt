@@ -5,10 +5,6 @@ use Rattle.filing.proofs.GatherLaws.{row-own, row-other}
 use borrow.Author.Needs.{needs}
 use Rattle.filing.proofs.gathering.gather_row.Statement.{statement}
 use Rattle.filing.proofs.gathering.gather_row.Tie as tie
-use Rattle.filing.proofs.gathering.gather_row.Reads as reads
-use Rattle.filing.proofs.gathering.gather_row.Lts as lts
-use Rattle.filing.proofs.gathering.copy_row.Reads as copy-row-reads
-use Rattle.filing.proofs.schedules.cell.Reads as cell-reads
 
 cell-requires : tie.Need-cell-requires
 cell-requires c κs = search needs

@@ -5,11 +5,6 @@ use Rattle.filing.proofs.OddsLaws.{odds-units, odds-schedules, odds-hou
 use borrow.Author.Needs.{needs}
 use Rattle.filing.proofs.odds.at_odds.Statement.{statement}
 use Rattle.filing.proofs.odds.at_odds.Tie as tie
-use Rattle.filing.proofs.odds.at_odds.Reads as reads
-use Rattle.filing.proofs.odds.at_odds.Lts as lts
-use Rattle.filing.proofs.odds.both_market.Reads as both-market-reads
-use Rattle.filing.proofs.odds.unlike.Reads as unlike-reads
-use Rattle.filing.proofs.schedules.cell.Reads as cell-reads
 
 cell-requires : tie.Need-cell-requires
 cell-requires c κs = search needs

@@ -3,9 +3,6 @@ use native.Mathlib.Omega.{arith}
 use Rattle.filing.proofs.OddsLaws.{Backward, backward-none, backward-here, backward-next, backward-over}
 use Rattle.filing.proofs.odds.at_odds_before.Statement.{statement}
 use Rattle.filing.proofs.odds.at_odds_before.Tie as tie
-use Rattle.filing.proofs.odds.at_odds_before.Reads as reads
-use Rattle.filing.proofs.odds.at_odds_before.Lts as lts
-use Rattle.filing.proofs.odds.at_odds.Reads as at-odds-reads
 
 abbrev Inv-loop : tie.InvT-loop
 Inv-loop cells k j₀ j = Backward cells k j

@@ -4,9 +4,6 @@ use Rattle.filing.proofs.OddsLaws.{market-not, market-first}
 use borrow.Author.Needs.{needs}
 use Rattle.filing.proofs.odds.both_market.Statement.{statement}
 use Rattle.filing.proofs.odds.both_market.Tie as tie
-use Rattle.filing.proofs.odds.both_market.Reads as reads
-use Rattle.filing.proofs.odds.both_market.Lts as lts
-use Rattle.filing.proofs.schedules.cell.Reads as cell-reads
 
 cell-requires : tie.Need-cell-requires
 cell-requires c κs = search needs

@@ -4,9 +4,6 @@ use native.Mathlib.Omega.{arith}
 use Rattle.filing.proofs.OddsLaws.{Agreeing, agreeing-none, agreeing-here, agreeing-next, agreeing-over}
 use Rattle.filing.proofs.odds.schedules_at_odds.Statement.{statement}
 use Rattle.filing.proofs.odds.schedules_at_odds.Tie as tie
-use Rattle.filing.proofs.odds.schedules_at_odds.Reads as reads
-use Rattle.filing.proofs.odds.schedules_at_odds.Lts as lts
-use Rattle.filing.proofs.odds.at_odds_before.Reads as at-odds-before-reads
 
 abbrev Inv-loop : tie.InvT-loop
 Inv-loop cells n k₀ k = Agreeing n cells k

@@ -4,9 +4,6 @@ use Rattle.filing.proofs.OddsLaws.{unlike-kinds, unlike-startups, unlik
 use borrow.Author.Needs.{needs}
 use Rattle.filing.proofs.odds.unlike.Statement.{statement}
 use Rattle.filing.proofs.odds.unlike.Tie as tie
-use Rattle.filing.proofs.odds.unlike.Reads as reads
-use Rattle.filing.proofs.odds.unlike.Lts as lts
-use Rattle.filing.proofs.schedules.cell.Reads as cell-reads
 
 cell-requires : tie.Need-cell-requires
 cell-requires c κs = search needs

@@ -5,9 +5,6 @@ use Rattle.filing.specs.Answers.{isOf}
 use Rattle.filing.proofs.ScheduleLaws.{AnyRow, any-row-none, any-row-over, has-row-here, has-row-next}
 use Rattle.filing.proofs.schedules.has_row.Statement.{statement}
 use Rattle.filing.proofs.schedules.has_row.Tie as tie
-use Rattle.filing.proofs.schedules.has_row.Reads as reads
-use Rattle.filing.proofs.schedules.has_row.Lts as lts
-use Rattle.filing.proofs.schedules.cell.Reads as cell-reads
 
 abbrev Inv-loop : tie.InvT-loop
 Inv-loop cells n unit k₀ k = AnyRow (isOf unit) n cells k

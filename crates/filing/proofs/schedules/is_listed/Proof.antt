@@ -1,12 +1,9 @@
 -- Whether a number is among the first of some. Assumes nothing.
 use Prim.Native.Nat.{_-_}
 use native.Mathlib.Omega.{arith}
-use borrow.Author.Needs.{needs}
 use Rattle.filing.proofs.ScheduleLaws.{Listing, listing-none, listing-here, listing-next, listing-over}
 use Rattle.filing.proofs.schedules.is_listed.Statement.{statement}
 use Rattle.filing.proofs.schedules.is_listed.Tie as tie
-use Rattle.filing.proofs.schedules.is_listed.Reads as reads
-use Rattle.filing.proofs.schedules.is_listed.Lts as lts
 
 abbrev Inv-loop : tie.InvT-loop
 Inv-loop number numbers count i₀ i = Listing number numbers count i

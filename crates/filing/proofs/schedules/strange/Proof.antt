@@ -1,18 +1,11 @@
 -- The first row of a unit that is not in supply. Assumes nothing.
-use Prim.Native.Nat.{_-_, _*_, _+_}
-use mathlib.Core.Path.{_≡_}
-use mathlib.Core.Bool.{true, false}
+use Prim.Native.Nat.{_-_}
 use native.Mathlib.Omega.{arith}
 use borrow.Author.Needs.{needs}
-use lib.ListN.{getD, take}
-use Rattle.base.specs.Rising.{among}
+use lib.ListN.{take}
 use Rattle.filing.proofs.ScheduleLaws.{Known, known-none, known-here, known-next, known-over}
 use Rattle.filing.proofs.schedules.strange.Statement.{statement}
 use Rattle.filing.proofs.schedules.strange.Tie as tie
-use Rattle.filing.proofs.schedules.strange.Reads as reads
-use Rattle.filing.proofs.schedules.strange.Lts as lts
-use Rattle.filing.proofs.schedules.cell.Reads as cell-reads
-use Rattle.filing.proofs.schedules.is_listed.Reads as is-listed-reads
 
 abbrev Inv-loop : tie.InvT-loop
 Inv-loop cells n units count k₀ k = Known n cells (take count units) k

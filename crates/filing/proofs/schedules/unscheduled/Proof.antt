@@ -9,9 +9,6 @@ use Rattle.filing.specs.Schedules.{unscheduled}
 use Rattle.filing.proofs.ScheduleLaws.{Finding, finding-none, finding-here, finding-next, finding-over}
 use Rattle.filing.proofs.schedules.unscheduled.Statement.{statement}
 use Rattle.filing.proofs.schedules.unscheduled.Tie as tie
-use Rattle.filing.proofs.schedules.unscheduled.Reads as reads
-use Rattle.filing.proofs.schedules.unscheduled.Lts as lts
-use Rattle.filing.proofs.schedules.has_row.Reads as has-row-reads
 
 abbrev Inv-loop : tie.InvT-loop
 Inv-loop cells n units count i₀ i = Finding (λ (u : ℕ). not (hasRow u (scheduleRows n cells))) units count i

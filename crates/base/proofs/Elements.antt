@@ -1,0 +1,67 @@
+-- Elements of a list, and the searches over them. Assumes nothing.
+use mathlib.Core.Path.{_≡_, refl, sym, _∙_}
+use mathlib.Core.Logic.{⊎-elim}
+use mathlib.Core.Bool.{Bool, true, false, cond}
+use mathlib.Core.List.{List, [], _∷_, List·Memᴰ, List·Memᴰ·head, List·Memᴰ·tail}
+use Rattle.base.specs.Search.{any, those, All, all-none, all-more}
+use Rattle.base.proofs.Finds.{any-later}
+use Rattle.base.proofs.Tests.{either, or-fst, or-snd, false-true}
+
+pub all-mem : {A : Type 0} {P : A → Type 0} {xs : List A} {x : A} → All P xs → List·Memᴰ x xs → P x
+all-mem {P} (all-more p a) (List·Memᴰ·head e) = rw e p
+all-mem (all-more p a) (List·Memᴰ·tail m) = all-mem a m
+
+module _ {A : Type 0} (p : A → Bool) where
+  -- one that passes, where some element does
+  pub any-mem : (xs : List A) → any p xs ≡ true → (x : A) × List·Memᴰ x xs × (p x ≡ true)
+  unfolding any
+  any-mem [] e = false-true e
+  any-mem (x ∷ xs) e = ⊎-elim here (later (λ (f : any p xs ≡ true). any-mem xs f)) (either (p x))
+    where
+      here : p x ≡ true → (y : A) × List·Memᴰ y (x ∷ xs) × (p y ≡ true)
+      here f = (x, List·Memᴰ·head refl, f)
+
+      later :
+          (any p xs ≡ true → (y : A) × List·Memᴰ y xs × (p y ≡ true)) → p x ≡ false →
+          (y : A) × List·Memᴰ y (x ∷ xs) × (p y ≡ true)
+      later below f =
+          let found = below (sym (any-later p x xs f) ∙ e) in
+          (found .0, List·Memᴰ·tail (found .1), found .2)
+
+  -- where none does, each fails
+  pub none-mem : (xs : List A) (x : A) → any p xs ≡ false → List·Memᴰ x xs → p x ≡ false
+  unfolding any
+  none-mem (y ∷ xs) x e (List·Memᴰ·head f) = rw f (or-fst (p y) (any p xs) e)
+  none-mem (y ∷ xs) x e (List·Memᴰ·tail m) = none-mem xs x (or-snd (p y) (any p xs) e) m
+
+  -- and where each fails, none does
+  pub mem-none : (xs : List A) → ((x : A) → List·Memᴰ x xs → p x ≡ false) → any p xs ≡ false
+  unfolding any
+  mem-none [] f = refl
+  mem-none (x ∷ xs) f =
+      any-later p x xs (f x (List·Memᴰ·head refl)) ∙ mem-none xs (λ (y : A) (m : List·Memᴰ y xs). f y (List·Memᴰ·tail m))
+
+  pub all-those : {P : A → Type 0} {xs : List A} → All P xs → All P (those p xs)
+  unfolding those
+  all-those all-none = all-none
+  all-those {P} {xs = x ∷ xs} (all-more q a) = go (p x) (all-those a)
+    where
+      go : (t : Bool) → All P (those p xs) → All P (cond t (x ∷ those p xs) (those p xs))
+      go true b = all-more q b
+      go false b = b
+
+-- two tests of which each finds nothing where the other does
+pub any-agree :
+    {A : Type 0} (p q : A → Bool) (xs : List A) → (any p xs ≡ false → any q xs ≡ false) →
+    (any q xs ≡ false → any p xs ≡ false) → any p xs ≡ any q xs
+any-agree p q xs f g = go (any p xs) (any q xs) f g
+  where
+    go : (s t : Bool) → (s ≡ false → t ≡ false) → (t ≡ false → s ≡ false) → s ≡ t
+    go true true f g = refl
+    go true false f g = g refl
+    go false t f g = sym (f refl)
+
+pub any-same : {A : Type 0} (p q : A → Bool) (xs : List A) → ((x : A) → p x ≡ q x) → any p xs ≡ any q xs
+unfolding any
+any-same p q [] f = refl
+any-same p q (x ∷ xs) f = rw (f x, any-same p q xs f)

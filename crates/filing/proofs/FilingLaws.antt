@@ -19,7 +19,7 @@ use Rattle.tables.specs.declared.files.Refusal.{Refusal}
 use Rattle.tables.specs.declared.files.Reading.{Reading}
 use Rattle.tables.specs.declared.files.Reading.the-variants.{Rows as RowsRead, Refused as NotRead}
 use Rattle.tables.proofs.Accepted.{Accepted, accepted}
-use Rattle.filing.specs.Checks.{unless, supplyChecked, schedulesChecked}
+use Rattle.filing.specs.Checks.{unless, supplyChecked, runsChecked, schedulesChecked}
 use Rattle.filing.specs.declared.checks.SupplyCheck.{SupplyCheck}
 use Rattle.filing.specs.declared.checks.SupplyCheck.the-variants.{Passed, Crowded, AtOdds}
 use Rattle.filing.specs.declared.checks.ScheduleCheck.{ScheduleCheck}
@@ -188,7 +188,7 @@ module _ (hour : ℕ) (us : List ℕ) (rs : List ScheduleRow) where
         ScheduleAnswers SchedulesPassed
 
   schedule-answers : ScheduleAnswers (schedulesChecked hour us rs)
-  unfolding schedulesChecked
+  unfolding schedulesChecked runsChecked
   schedule-answers = go (schedulesAtOdds rs) refl (strange us rs) refl (unscheduled us rs) refl (lacking hour us rs) refl
     where
       go :

@@ -1,3 +1,4 @@
+pub mod CheckLaws
 pub mod FilingLaws
 pub mod GatherLaws
 pub mod NumberLaws

@@ -68,8 +68,8 @@ pub record Backward (cells : List ℕ) (k j : ℕ) : Type 0 where
   pub rest : any (scheduleOdds (scheduleAt cells k)) (earlier cells k) ≡ any (scheduleOdds (scheduleAt cells k)) (earlier cells j)
 
 module _ (cells : List ℕ) (k : ℕ) where
-  pub backward-none : Backward cells k k
-  backward-none = record { upto = omega arith; rest = refl }
+  pub backward-none : (j : ℕ) → j ≡ k → Backward cells k j
+  backward-none j e = record { upto = omega arith; rest = rw e }
 
   earlier-next : (j : ℕ) → 0 < j → earlier cells j ≡ scheduleAt cells (j - 1) ∷ earlier cells (j - 1)
   unfolding earlier
@@ -111,9 +111,9 @@ module _ (n : ℕ) (cells : List ℕ) where
   agreeing-none = record { upto = omega arith; rest = refl }
 
   module _ (k : ℕ) (t : Bool) (l : Agreeing n cells k) (h : k < n) (is : t ≡ any (scheduleOdds (scheduleAt cells k)) (earlier cells k)) where
-    pub agreeing-here : t ≡ true → k + 1 ≡ Option·getD (schedulesAtOdds (scheduleRows n cells)) 0
+    pub agreeing-here : (x : ℕ) → t ≡ true → x ≡ k + 1 → x ≡ Option·getD (schedulesAtOdds (scheduleRows n cells)) 0
     unfolding firstAtOdds
-    agreeing-here e = rw (l .rest, schedule-next n cells k h, ← is, e) (add-one k)
+    agreeing-here x e named = named ∙ rw (l .rest, schedule-next n cells k h, ← is, e) (add-one k)
 
     pub agreeing-next : t ≡ false → Agreeing n cells (k + 1)
     unfolding firstAtOdds earlier

@@ -257,8 +257,11 @@ module _ (r e : ScheduleRow) (k : ℕ) where
     unfolding sameSchedule atHour
     at-hours x s is = rw is (simp (eq-eqb (r .unit) (e .unit) u, eq-eqb (r .schedule) (e .schedule) s))
 
--- the steps of a row's schedule, by the tests in their order; t says whether it has a row at h
-module _ (h : ℕ) (rs : List ScheduleRow) (r : ScheduleRow) (t : Bool) (is : t ≡ hasHour r h rs) where
+-- the steps of a row's schedule, by the tests in their order; t says whether it has a row at the study hour, y
+module _ (h : ℕ) (rs : List ScheduleRow) (r : ScheduleRow) (y : ℕ) (t : Bool) (from-h : y ≡ h) (said : t ≡ hasHour r y rs) where
+  is : t ≡ hasHour r h rs
+  is = rw from-h at said
+
   pub runs-not : not t ≡ true → false ≡ runs h rs r
   unfolding runs
   runs-not f = rw (← is, not-true t f)
@@ -274,11 +277,12 @@ module _ (h : ℕ) (rs : List ScheduleRow) (r : ScheduleRow) (t : Bool) (is : t 
     unfolding runs goesOn
     runs-over f = rw (← is, not-false t starts, le-ltb (r .hour) (runEnd h (r .minrun)) f) (simp and-false)
 
-    -- or inside; u says whether the schedule has a row for the next hour, y
+    -- or inside; u says whether the schedule has a row for the next hour, z
     pub runs-inside :
-        (u : Bool) (y : ℕ) → h ≤ r .hour → r .hour < runEnd h (r .minrun) → y ≡ r .hour + 1 → u ≡ hasHour r y rs → u ≡ runs h rs r
+        (u : Bool) (z : ℕ) → h ≤ r .hour → r .hour < runEnd h (r .minrun) → z ≡ r .hour + 1 → u ≡ hasHour r z rs →
+        u ≡ runs h rs r
     unfolding runs goesOn
-    runs-inside u y from below next on =
+    runs-inside u z from below next on =
         rw (← is, not-false t starts, le-leb h (r .hour) from, lt-ltb (r .hour) (runEnd h (r .minrun)) below, ← next) on
 
 -- what all rows have, the row at a place has

@@ -106,17 +106,20 @@ module _ (p : ℕ → Bool) (numbers : List ℕ) (count : ℕ) where
   pub finding-none : count ≤ length numbers → Finding p numbers count 0
   finding-none h = record { within = h; upto = omega arith; rest = refl }
 
-  module _ (i : ℕ) (t : Bool) (l : Finding p numbers count i) (h : i < count) (is : t ≡ p (getD numbers i 0)) where
-    pub finding-here : t ≡ true → Number (getD numbers i 0) ≡ lowestOf (find p (take count numbers))
-    finding-here e =
-        rw (l .rest, numbers-next numbers count i (l .within) h, find-here p (getD numbers i 0) (drop (i + 1) (take count numbers)) (sym is ∙ e))
+  -- the next number is x, and t says whether it passes
+  module _ (i x : ℕ) (t : Bool) (l : Finding p numbers count i) (h : i < count) (next : x ≡ getD numbers i 0) (said : t ≡ p x) where
+    next-one : drop i (take count numbers) ≡ x ∷ drop (i + 1) (take count numbers)
+    next-one = rw next (numbers-next numbers count i (l .within) h)
+
+    pub finding-here : t ≡ true → Number x ≡ lowestOf (find p (take count numbers))
+    finding-here e = rw (l .rest, next-one, find-here p x (drop (i + 1) (take count numbers)) (sym said ∙ e))
 
     pub finding-next : t ≡ false → Finding p numbers count (i + 1)
     finding-next e =
         record {
           within = l .within;
           upto = omega arith;
-          rest = l .rest ∙ rw (numbers-next numbers count i (l .within) h) (find-later p (getD numbers i 0) _ (sym is ∙ e));
+          rest = l .rest ∙ rw next-one (find-later p x _ (sym said ∙ e));
         }
 
   pub finding-over : (i : ℕ) → Finding p numbers count i → count ≤ i → Nothing ≡ lowestOf (find p (take count numbers))
@@ -140,10 +143,11 @@ module _ (n : ℕ) (cells us : List ℕ) where
 
   -- the next row's unit is u, and t says whether it is known
   module _ (k u : ℕ) (t : Bool) (l : Known n cells us k) (h : k < n) (is : u ≡ getD cells (k * 9 + 0) 0) (said : t ≡ among u us) where
-    pub known-here : not t ≡ true → k + 1 ≡ Option·getD (strange us (scheduleRows n cells)) 0
-    known-here e =
+    pub known-here : (x : ℕ) → not t ≡ true → x ≡ k + 1 → x ≡ Option·getD (strange us (scheduleRows n cells)) 0
+    known-here x e named =
         let strange-row : stranger (scheduleAt cells k) ≡ true = rw (← is, ← said) e in
-        rw (l .rest, schedule-next n cells k h, first-here stranger (suc k) (scheduleAt cells k) (drop (k + 1) (scheduleRows n cells)) strange-row)
+        named
+        ∙ rw (l .rest, schedule-next n cells k h, first-here stranger (suc k) (scheduleAt cells k) (drop (k + 1) (scheduleRows n cells)) strange-row)
         (add-one k)
 
     pub known-next : not t ≡ false → Known n cells us (k + 1)

@@ -2,7 +2,7 @@
 -- the places that refusals 5 and 6 name: 0 stands for none. Assumes nothing.
 use Prim.Native.Nat.{ℕ, suc, _≤_, _<_}
 use mathlib.Core.Path.{_≡_, refl, sym, _∙_, ap}
-use mathlib.Core.Bool.{Bool, true, false, cond, _||_, or-false}
+use mathlib.Core.Bool.{Bool, true, false, cond, not, _||_, or-false}
 use mathlib.Core.List.{List, [], _∷_}
 use mathlib.Core.Option.{Option, none, some, Option·getD}
 use mathlib.Core.Logic.{⊎-elim}
@@ -11,10 +11,11 @@ use lib.Dec.{eqb}
 use lib.ListN.{length}
 use borrow.Author.Tests.{eq-eqb, ne-eqb}
 use Rattle.base.specs.Rising.{among, RisingFrom, end, inserted}
-use Rattle.base.specs.Search.{any, firstAtOdds, All, all-none, all-more}
+use Rattle.base.specs.Search.{any, first, firstAtOdds, All, all-none, all-more}
 use Rattle.base.proofs.RisingLaws.{inserted-rising, among-inserted}
 use Rattle.base.proofs.Tests.{eq-or-ne}
-use Rattle.tables.specs.Rows.{SupplyRow}
+use Rattle.tables.specs.Rows.{SupplyRow, ScheduleRow}
+use Rattle.filing.specs.Schedules.{scheduleOdds, schedulesAtOdds, strange}
 use Rattle.filing.specs.Supply.{
   units,
   unitsFrom,
@@ -121,6 +122,19 @@ module _ {A : Type 0} (odds : A → A → Bool) where
 pub supply-at-odds-none : (rs : List SupplyRow) → Option·getD (supplyAtOdds rs) 0 ≡ 0 → supplyAtOdds rs ≡ none
 unfolding supplyAtOdds
 supply-at-odds-none rs e = at-odds-none supplyOdds [] 0 rs e
+
+pub schedules-at-odds-none : (rs : List ScheduleRow) → Option·getD (schedulesAtOdds rs) 0 ≡ 0 → schedulesAtOdds rs ≡ none
+unfolding schedulesAtOdds
+schedules-at-odds-none rs e = at-odds-none scheduleOdds [] 0 rs e
+
+first-none-at : {A : Type 0} (p : A → Bool) (k : ℕ) (xs : List A) → Option·getD (first p (suc k) xs) 0 ≡ 0 → first p (suc k) xs ≡ none
+unfolding first
+first-none-at p k [] e = refl
+first-none-at p k (x ∷ xs) e = no-place (p x) k (first p (suc (suc k)) xs) (first-none-at p (suc k) xs) e
+
+pub strange-none : (us : List ℕ) (rs : List ScheduleRow) → Option·getD (strange us rs) 0 ≡ 0 → strange us rs ≡ none
+unfolding strange
+strange-none us rs e = first-none-at (λ (r : ScheduleRow). not (among (r .unit) us)) 0 rs e
 
 -- any other place is one
 pub place-some : (o : Option ℕ) (p : ℕ) → p ≡ Option·getD o 0 → 0 < p → o ≡ some p

@@ -1,4 +1,21 @@
 // The rules between rows, one file at a time, in the order of their numbers.
+ghost use mathlib.Core.Path.{_≡_};
+ghost use Prim.Native.Nat.{_*_, _≤_, _<_};
+ghost use lib.ListN.{length, take};
+ghost use Rattle.tables.specs.Rows.{supplyRows, scheduleRows};
+ghost use Rattle.filing.specs.Checks.{schedulesChecked, runsChecked, SupplyChecked, InHoursOf};
+ghost use Rattle.filing.specs.Ranges.{Checked};
+ghost use Rattle.filing.specs.Supply.{mostUnits};
+use crate::odds::schedules_at_odds;
+use crate::runs::lacking;
+use crate::schedules::Lowest;
+use crate::schedules::strange;
+use crate::schedules::unscheduled;
+use crate::supply::crowd;
+use crate::supply::supply_at_odds;
+
+// One more than the most suppliers that a file may have.
+const SUPPLIERS: usize = 33;
 
 // What supply rows are to each other: in order, with how many units; crowded (5) or at odds (6) at a
 // record.
@@ -16,4 +33,65 @@ pub enum ScheduleCheck {
     Strange(usize),
     Unscheduled(u64),
     Lacking(u64),
+}
+
+// Checks n supply rows, and lays down their units by rising number.
+pub fn check_supply(cells: &[u64], n: usize, units: &mut [u64]) -> SupplyCheck
+    requires { ⌜ n * 5 ≤ length (now cells) ⌝ }
+    requires { ⌜ mostUnits < length (now units) ⌝ }
+    ensures { λ r. ⌜ SupplyChecked (supplyRows n (now (cells .entry))) (now (units .exit)) r ⌝ }
+{
+    let mut suppliers = [0u64; SUPPLIERS];
+    let counts = crowd(cells, n, units, &mut suppliers);
+    if counts.place != 0 {
+        return SupplyCheck::Crowded(counts.place);
+    }
+    let odd = supply_at_odds(cells, n);
+    if odd != 0 {
+        return SupplyCheck::AtOdds(odd);
+    }
+    SupplyCheck::Passed(counts.units)
+}
+
+// Checks n schedule rows against each other, and against the first `count` units.
+pub fn check_schedules(
+    cells: &[u64],
+    n: usize,
+    units: &[u64],
+    count: usize,
+    hour: u64,
+) -> ScheduleCheck
+    requires { ⌜ n ≤ 1024 ⌝ }
+    requires { ⌜ n * 9 ≤ length (now cells) ⌝ }
+    requires { ⌜ count ≤ length (now units) ⌝ }
+    requires { ⌜ InHoursOf hour (scheduleRows n (now cells)) ⌝ }
+    ensures { λ r. ⌜ r ≡ schedulesChecked hour (take count (now (units .entry))) (scheduleRows n (now (cells .entry))) ⌝ }
+{
+    let odd = schedules_at_odds(cells, n);
+    if odd != 0 {
+        return ScheduleCheck::AtOdds(odd);
+    }
+    let stranger = strange(cells, n, units, count);
+    if stranger != 0 {
+        return ScheduleCheck::Strange(stranger);
+    }
+    let bare = unscheduled(cells, n, units, count);
+    match bare {
+        Lowest::Number(unit) => ScheduleCheck::Unscheduled(unit),
+        Lowest::Nothing => check_runs(cells, n, units, count, hour),
+    }
+}
+
+fn check_runs(cells: &[u64], n: usize, units: &[u64], count: usize, hour: u64) -> ScheduleCheck
+    requires { ⌜ n ≤ 1024 ⌝ }
+    requires { ⌜ n * 9 ≤ length (now cells) ⌝ }
+    requires { ⌜ count ≤ length (now units) ⌝ }
+    requires { ⌜ Checked hour (scheduleRows n (now cells)) ⌝ }
+    ensures { λ r. ⌜ r ≡ runsChecked hour (take count (now (units .entry))) (scheduleRows n (now (cells .entry))) ⌝ }
+{
+    let short = lacking(cells, n, units, count, hour);
+    match short {
+        Lowest::Number(unit) => ScheduleCheck::Lacking(unit),
+        Lowest::Nothing => ScheduleCheck::Passed,
+    }
 }

@@ -120,9 +120,10 @@ module _ (n : ℕ) (cells old new : List ℕ) (i count : ℕ) (l : Listing n cel
 
     pub listing-room : (count ≤ length new) × (length (met (take count new) k) ≤ length new)
     listing-room =
-        rw (at-start, listing-length)
-        (omega (arith, known-fits, l .wrote .counted),
-        omega (arith, l .room, ap length with-next, met-all-longer (met (l .known) k) (drop (i + 1) (supplyRows n cells))))
+        rw (at-start, listing-length) (
+          omega (arith, known-fits, l .wrote .counted),
+          omega (arith, l .room, ap length with-next, met-all-longer (met (l .known) k) (drop (i + 1) (supplyRows n cells))),
+        )
 
     pub listing-next :
         (r : ℕ) (newer : List ℕ) → Wrote (met (take count new) k) r new newer → Listing n cells old newer (i + 1) r

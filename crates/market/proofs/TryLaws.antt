@@ -52,9 +52,9 @@ module _ (n : ℕ) (cells : List ℕ) (cutoff need : ℕ) where
         record {
           upto = omega arith;
           not-yet =
-            l .not-yet
-            ∙ rw (rows-next n cells i h, add-one)
-            (first-later (clears cutoff need (supplyRows n cells)) i (cellsRow cells i) (drop (suc i) (supplyRows n cells)) e);
+              l .not-yet
+              ∙ rw (rows-next n cells i h, add-one)
+              (first-later (clears cutoff need (supplyRows n cells)) i (cellsRow cells i) (drop (suc i) (supplyRows n cells)) e);
         }
 
     pub trying-here :

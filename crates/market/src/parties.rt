@@ -59,7 +59,15 @@ fn is_among(k: u64, list: &[u64], count: usize) -> bool
 
 // Writes the relevant supply of each of the first `count` parties to the start of `out`, where the
 // row at `clearing` clears.
-pub fn add_amounts(cells: &[u64], n: usize, cutoff: u64, clearing: usize, parties: &[u64], count: usize, out: &mut [u64])
+pub fn add_amounts(
+    cells: &[u64],
+    n: usize,
+    cutoff: u64,
+    clearing: usize,
+    parties: &[u64],
+    count: usize,
+    out: &mut [u64],
+)
     requires { ⌜ SupplyCells n (now cells) ⌝ }
     requires { ⌜ clearing < n ⌝ }
     requires { ⌜ count ≤ length (now parties) ⌝ }

@@ -9,9 +9,13 @@ use crate::offer::capped;
 
 // The cells of a row, and their places in it.
 const WIDTH: usize = 5;
+
 const SUPPLIER: usize = 1;
+
 const MW: usize = 2;
+
 const COST: usize = 3;
+
 const DFAX: usize = 4;
 
 // The cell of a dfax of 0.

@@ -11,7 +11,7 @@ abbrev μ-loop : tie.MeasureT-loop
 μ-loop cells k j₀ j = j
 
 loop-holds : tie.Need-loop-holds Inv-loop μ-loop
-loop-holds c = backward-none _ _
+loop-holds c = backward-none _ _ _ (omega arith)
 
 sub-j : tie.Need-sub-j Inv-loop μ-loop
 sub-j c = omega arith

@@ -21,7 +21,7 @@ add-result : tie.Need-add-result Inv-loop μ-loop
 add-result c = omega arith
 
 returns : tie.Need-returns Inv-loop μ-loop
-returns c = agreeing-here _ _ _ _ (c .before .before .before .loop .inv) (omega arith) (c .before .at-odds-before .ensures) (c .if1 .taken)
+returns c = agreeing-here _ _ _ _ (c .before .before .before .loop .inv) (omega arith) (c .before .at-odds-before .ensures) _ (c .if1 .taken) (omega arith)
 
 add-k : tie.Need-add-k Inv-loop μ-loop
 add-k c = omega arith

@@ -41,7 +41,7 @@ lacks-requires c κs = let gathered = c .before .before .gather .ensures in
 
 returns : tie.Need-returns Inv-loop μ-loop
 unfolding lacking
-returns c = finding-here _ _ _ _ _ (c .before .before .before .before .before .before .before .before .loop .inv .1) (omega arith)
+returns c = finding-here _ _ _ _ _ _ (c .before .before .before .before .before .before .before .before .loop .inv .1) (omega arith) (omega arith)
     (c .before .lacks .ensures ∙ ap (lacks _) (c .before .before .before .before .gather .ensures .rows)) (c .if1 .taken)
 
 add-i : tie.Need-add-i Inv-loop μ-loop
@@ -53,7 +53,7 @@ loop-less c = omega arith
 loop-again : tie.Need-loop-again Inv-loop μ-loop
 loop-again c = (
   omega arith,
-  finding-next _ _ _ _ _ (c .before .before .before .before .before .before .before .before .loop .inv .1) (omega arith)
+  finding-next _ _ _ _ _ _ (c .before .before .before .before .before .before .before .before .loop .inv .1) (omega arith) (omega arith)
       (c .before .lacks .ensures ∙ ap (lacks _) (c .before .before .before .before .gather .ensures .rows)) (c .if1 .left),
 )
 

@@ -10,17 +10,17 @@ has-hour-requires : tie.Need-has-hour-requires
 has-hour-requires c κs = search needs
 
 returns : tie.Need-returns
-returns c = runs-not _ _ _ _ (c .before .has-hour .ensures) (c .if1 .taken)
+returns c = runs-not _ _ _ _ _ (omega arith) (c .before .has-hour .ensures) (c .if1 .taken)
 
 cell-requires : tie.Need-cell-requires
 cell-requires c κs = search needs
 
 returns-2 : tie.Need-returns-2
-returns-2 c = runs-before _ _ _ _ (c .before .before .before .has-hour .ensures) (c .before .before .if1 .left) (omega arith)
+returns-2 c = runs-before _ _ _ _ _ (omega arith) (c .before .before .before .has-hour .ensures) (c .before .before .if1 .left) (omega arith)
 
 returns-3 : tie.Need-returns-3
 unfolding runEnd
-returns-3 c = runs-over _ _ _ _ (c .before .before .before .before .has-hour .ensures) (c .before .before .before .if1 .left) (omega arith)
+returns-3 c = runs-over _ _ _ _ _ (omega arith) (c .before .before .before .before .has-hour .ensures) (c .before .before .before .if1 .left) (omega arith)
 
 cell-requires-2 : tie.Need-cell-requires-2
 cell-requires-2 c κs = search needs
@@ -33,7 +33,7 @@ add-if4-2 c = search needs
 
 returns-4 : tie.Need-returns-4
 unfolding runEnd
-returns-4 c = runs-over _ _ _ _ (c .before .before .before .before .before .before .has-hour .ensures) (c .before .before .before .before .before .if1 .left) (omega arith)
+returns-4 c = runs-over _ _ _ _ _ (omega arith) (c .before .before .before .before .before .before .has-hour .ensures) (c .before .before .before .before .before .if1 .left) (omega arith)
 
 add-has-hour : tie.Need-add-has-hour
 add-has-hour c = search needs
@@ -43,7 +43,7 @@ has-hour-requires-2 c κs = search needs
 
 returns-5 : tie.Need-returns-5
 unfolding runEnd
-returns-5 c = runs-inside _ _ _ _ (c .before .before .before .before .before .before .before .has-hour .ensures) (c .before .before .before .before .before .before .if1 .left) _ _ (omega arith) (omega arith) (omega arith) (c .has-hour2 .ensures)
+returns-5 c = runs-inside _ _ _ _ _ (omega arith) (c .before .before .before .before .before .before .before .has-hour .ensures) (c .before .before .before .before .before .before .if1 .left) _ _ (omega arith) (omega arith) (omega arith) (c .has-hour2 .ensures)
 
 pub runs-spec : {M : Type 1} → statement M
 runs-spec =

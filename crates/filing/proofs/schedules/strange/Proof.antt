@@ -26,7 +26,7 @@ add-result : tie.Need-add-result Inv-loop μ-loop
 add-result c = omega arith
 
 returns : tie.Need-returns Inv-loop μ-loop
-returns c = known-here _ _ _ _ _ _ (c .before .before .before .before .loop .inv) (omega arith) (c .before .before .cell .ensures) (c .before .is-listed .ensures) (c .if1 .taken)
+returns c = known-here _ _ _ _ _ _ (c .before .before .before .before .loop .inv) (omega arith) (omega arith) (c .before .is-listed .ensures) _ (c .if1 .taken) (omega arith)
 
 add-k : tie.Need-add-k Inv-loop μ-loop
 add-k c = omega arith
@@ -35,7 +35,7 @@ loop-less : tie.Need-loop-less Inv-loop μ-loop
 loop-less c = omega arith
 
 loop-again : tie.Need-loop-again Inv-loop μ-loop
-loop-again c = known-next _ _ _ _ _ _ (c .before .before .before .before .loop .inv) (omega arith) (c .before .before .cell .ensures) (c .before .is-listed .ensures) (c .if1 .left)
+loop-again c = known-next _ _ _ _ _ _ (c .before .before .before .before .loop .inv) (omega arith) (omega arith) (c .before .is-listed .ensures) (c .if1 .left)
 
 returns-2 : tie.Need-returns-2 Inv-loop μ-loop
 returns-2 c = known-over _ _ _ _ (c .before .loop .inv) (omega arith)

@@ -37,9 +37,10 @@ loop-less c = omega arith
 
 loop-again : tie.Need-loop-again Inv-loop μ-loop
 loop-again c = let start = c .before .before .before .before in
-    let loop = c .before .before .before .loop in
-    (omega arith,
-    loop .inv .1 ∙ among-later _ (start .args .list .now) (start .args .count) (omega arith) (loop .i) (omega arith) (c .if1 .left))
+    let loop = c .before .before .before .loop in (
+      omega arith,
+      loop .inv .1 ∙ among-later _ (start .args .list .now) (start .args .count) (omega arith) (loop .i) (omega arith) (c .if1 .left),
+    )
 
 returns-2 : tie.Need-returns-2 Inv-loop μ-loop
 returns-2 c = let start = c .before .before in

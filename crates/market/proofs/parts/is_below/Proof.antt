@@ -17,11 +17,11 @@ cost-beside-requires-2 c κs = search needs
 returns : tie.Need-returns
 unfolding eligibleBelow below
 returns c = simp (
-      ← c .before .before .before .is-eligible .ensures,
-      c .before .before .if1 .taken,
-      c .before .cost-beside .ensures,
-      c .cost-beside2 .ensures,
-    )
+  ← c .before .before .before .is-eligible .ensures,
+  c .before .before .if1 .taken,
+  c .before .cost-beside .ensures,
+  c .cost-beside2 .ensures,
+)
 
 returns-2 : tie.Need-returns-2
 unfolding eligibleBelow

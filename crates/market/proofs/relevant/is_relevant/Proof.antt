@@ -24,11 +24,11 @@ mul-result-2 c = omega (arith, beside-small _ _ _ (c .before .before .before .be
 returns : tie.Need-returns
 unfolding relevant
 returns c = simp (
-      ← c .before .before .before .is-eligible .ensures,
-      c .before .before .if1 .taken,
-      c .before .cost-beside .ensures,
-      c .cost-beside2 .ensures,
-    )
+  ← c .before .before .before .is-eligible .ensures,
+  c .before .before .if1 .taken,
+  c .before .cost-beside .ensures,
+  c .cost-beside2 .ensures,
+)
 
 returns-2 : tie.Need-returns-2
 unfolding relevant

@@ -32,7 +32,7 @@ mul-result c = let start = c .before .before .before .before in
     omega (
       arith,
       beside-small _ _ _ (start .pre .0 .permitted)
-      (beside-cells _ (start .args .row) (start .args .other) _ _ (c .before .capped .ensures .0) (c .abs-dfax .ensures)),
+          (beside-cells _ (start .args .row) (start .args .other) _ _ (c .before .capped .ensures .0) (c .abs-dfax .ensures)),
     )
 
 returns : tie.Need-returns

@@ -6,7 +6,7 @@ use Rattle.csv.proofs.scanning.textdata.Statement.{statement}
 use Rattle.csv.proofs.scanning.textdata.Tie as tie
 
 returns : tie.Need-returns
-returns c = simp (lt-leb 0x20 _ (c .if1 .taken), lt-leb 0x23 (c .before .args .b) (omega arith), lt-leb 0x2D (c .before .args .b) (omega arith))
+returns c = simp (lt-leb 0x20 (c .before .args .b) (omega arith), lt-leb 0x23 (c .before .args .b) (omega arith), lt-leb 0x2D (c .before .args .b) (omega arith))
 
 returns-2 : tie.Need-returns-2
 returns-2 c = rw (c .if2 .taken)
@@ -15,7 +15,7 @@ returns-3 : tie.Need-returns-3
 returns-3 c = rw (c .if3 .taken)
 
 returns-4 : tie.Need-returns-4
-returns-4 c = textdata-from-space _ (c .before .before .if1 .left) (c .before .if2 .left) (c .if3 .left)
+returns-4 c = textdata-from-space _ (omega arith) (c .before .if2 .left) (c .if3 .left)
 
 pub textdata-spec : {M : Type 1} → statement M
 textdata-spec = tie.close (tie.spec returns returns-2 returns-3 returns-4)

@@ -18,10 +18,10 @@ returns-2 : tie.Need-returns-2
 returns-2 c = one-of-first _ _ _ (c .before .before .if1 .left) (c .if2 .taken)
 
 returns-3 : tie.Need-returns-3
-returns-3 c = one-of-second _ _ _ (c .before .before .before .if1 .left) (c .before .if2 .left) (c .if3 .taken)
+returns-3 c = one-of-second _ _ _ (c .before .before .before .if1 .left) (c .before .if2 .left) (omega arith)
 
 returns-4 : tie.Need-returns-4
-returns-4 c = one-of-neither _ _ _ (c .before .before .before .if1 .left) (c .before .if2 .left) (c .if3 .left)
+returns-4 c = one-of-neither _ _ _ (c .before .before .before .if1 .left) (c .before .if2 .left) (λ e. omega arith)
 
 pub one-of-spec : {M : Type 1} → statement M
 one-of-spec =

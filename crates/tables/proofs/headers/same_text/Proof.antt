@@ -29,7 +29,7 @@ shared-slice-read-if2-2 c = omega arith
 returns-2 : tie.Need-returns-2 Inv-loop μ-loop
 returns-2 c =
     let loop = c .before .before .before .before .loop in
-    sym (loop .inv .1 ∙ same-differs _ _ (loop .i) (c .before .before .before .before .before .if1 .left) (omega arith) (c .if2 .taken))
+    sym (loop .inv .1 ∙ same-differs _ _ (loop .i) (c .before .before .before .before .before .if1 .left) (omega arith) (λ e. omega arith))
 
 add-i : tie.Need-add-i Inv-loop μ-loop
 add-i c = omega arith
@@ -40,7 +40,7 @@ loop-less c = omega arith
 loop-again : tie.Need-loop-again Inv-loop μ-loop
 loop-again c =
     let loop = c .before .before .before .before .loop in
-    (omega arith, loop .inv .1 ∙ same-next _ _ (loop .i) (c .before .before .before .before .before .if1 .left) (omega arith) (c .if2 .left))
+    (omega arith, loop .inv .1 ∙ same-next _ _ (loop .i) (c .before .before .before .before .before .if1 .left) (omega arith) (omega arith))
 
 returns-3 : tie.Need-returns-3 Inv-loop μ-loop
 returns-3 c =

@@ -1,23 +1,19 @@
--- The choice is just what demand 3 asks, both ways; there is one exactly when some schedule is eligible; and some schedule is
--- eligible where the unit has one, and a C schedule if it runs on cost. Assumes nothing.
-use Prim.Native.Nat.{ℕ, _≤_, _<_}
+-- The choice is just what demand 3 asks, both ways, and there is one exactly when some schedule is eligible. Assumes nothing.
+use Prim.Native.Nat.{ℕ, _≤_}
 use mathlib.Core.Path.{_≡_, refl, sym, _∙_, ap, subst}
-use mathlib.Core.Logic.{_↔_, _⊎_, ⊎-elim}
-use mathlib.Core.Bool.{Bool, true, false, _||_}
-use mathlib.Core.List.{List, [], _∷_, map, List·Memᴰ as Among, List·Memᴰ·head as first, List·Memᴰ·tail as later, List·Memᴰ·not-nil as not-nil}
-use mathlib.Core.Option.{Option, none, some}
+use mathlib.Core.Logic.{_↔_, ⊎-elim}
+use mathlib.Core.Bool.{Bool}
+use mathlib.Core.List.{List, List·Memᴰ as Among, List·Memᴰ·not-nil as not-nil}
+use mathlib.Core.Option.{Option}
 use native.Mathlib.Omega.{arith}
-use Rattle.base.proofs.Tests.{eq-or-ne, false-true, or-fst, or-snd}
-use Rattle.tables.specs.Rows.{ScheduleRow, kindOf}
+use Rattle.base.proofs.Tests.{eq-or-ne}
+use Rattle.tables.specs.Rows.{ScheduleRow}
 use Rattle.tables.specs.declared.files.Kind.{Kind}
-use Rattle.tables.specs.declared.files.Kind.the-variants.{M, C}
-use Rattle.commitment.specs.declared.choosing.Kinds.{Kinds}
-use Rattle.commitment.specs.declared.choosing.Kinds.the-variants.{All, OnlyM, OnlyC}
 use Rattle.commitment.specs.declared.choosing.Choice.{Choice}
 use Rattle.commitment.specs.declared.choosing.Chosen.{Chosen}
-use Rattle.commitment.specs.declared.choosing.Chosen.the-variants.{Schedule, Nothing}
+use Rattle.commitment.specs.declared.choosing.Chosen.the-variants.{Schedule}
 use Rattle.commitment.specs.Cost.{cost}
-use Rattle.commitment.specs.Schedules.{schedules, running, onCost, admits, ofKinds, hasAny, eligibleKinds, eligible}
+use Rattle.commitment.specs.Schedules.{schedules, running, eligible}
 use Rattle.commitment.specs.Choosing.{shown, candidates, choice}
 use Rattle.commitment.specs.Right.{Eligible, RightChoice, OneRowEach}
 use Rattle.commitment.proofs.PassingLaws.{passing-among, among-passing, map-among, among-map}
@@ -54,7 +50,7 @@ module _ (day : Option Kind) (exposed : Bool) (h : ℕ) (rows : List ScheduleRow
         row = row;
         is-eligible = el;
         shows = s;
-        least = λ other k. all (shown day h rows other) (candidate other k) .costs;
+        least = λ other k. omega (arith, all (shown day h rows other) (candidate other k) .costs);
         smallest = λ other k f differs. omega (arith, all (shown day h rows other) (candidate other k) .number f, differs);
       })
 
@@ -72,7 +68,7 @@ module _ (day : Option Kind) (exposed : Bool) (h : ℕ) (rows : List ScheduleRow
       (λ e.
       let its-row = distinct .same row (r .row) (el .of-the-unit) (r .is-eligible .of-the-unit) (e ∙ ap (λ (x : Choice). x .schedule) (r .shows)) in
       s ∙ ap (shown day h rows) its-row ∙ sym (r .shows))
-      (λ e. absurd (omega (arith, r .smallest row el costs e)))
+      (λ e. absurd (omega (arith, r .smallest row el costs (omega arith))))
       (eq-or-ne (row .schedule) (c .schedule))
 
   is-candidate : {c : Choice} → RightChoice day exposed h rows c → Among c (candidates day exposed h rows)
@@ -104,62 +100,3 @@ module _ (day : Option Kind) (exposed : Bool) (h : ℕ) (rows : List ScheduleRow
         (r .row, r .is-eligible),
     λ x. found chosen (x .0) (x .1),
   )
-
--- a schedule of these kinds
-of-kinds :
-    (kinds : Kinds) (all : List ScheduleRow) → hasAny kinds all ≡ true →
-    (row : ScheduleRow) × Among row all × (ofKinds kinds row ≡ true)
-unfolding hasAny
-of-kinds kinds [] e = false-true e
-of-kinds kinds (row ∷ rows) e = go (ofKinds kinds row) refl e (of-kinds kinds rows)
-  where
-    go :
-        (t : Bool) → ofKinds kinds row ≡ t → (t || hasAny kinds rows) ≡ true →
-        (hasAny kinds rows ≡ true → (other : ScheduleRow) × Among other rows × (ofKinds kinds other ≡ true)) →
-        (other : ScheduleRow) × Among other (row ∷ rows) × (ofKinds kinds other ≡ true)
-    go true f e more = (row, first refl, f)
-    go false f e more = (more e .0, later (more e .1), more e .2)
-
-none-of-kinds :
-    (kinds : Kinds) {all : List ScheduleRow} {row : ScheduleRow} → hasAny kinds all ≡ false → Among row all →
-    ofKinds kinds row ≡ false
-unfolding hasAny
-none-of-kinds kinds e (first {x = r} {xs = rs} f) = rw f (or-fst _ (hasAny kinds rs) e)
-none-of-kinds kinds e (later {x = r} {xs = rs} m) = none-of-kinds kinds (or-snd (ofKinds kinds r) (hasAny kinds rs) e) m
-
--- what isn't M is C
-isn't-M : (row : ScheduleRow) → ofKinds OnlyM row ≡ false → ofKinds OnlyC row ≡ true
-unfolding ofKinds
-isn't-M row = go (kindOf (row .kind))
-  where
-    go : (k : Kind) → admits OnlyM k ≡ false → admits OnlyC k ≡ true
-    go M e = false-true (sym e)
-    go C e = refl
-
-module _ (day : Option Kind) (exposed : Bool) (h : ℕ) (rows : List ScheduleRow) where
-  -- the schedules of the eligible kinds are the eligible ones
-  by-kinds :
-      (kinds : Kinds) → eligibleKinds day exposed (hasAny OnlyM (schedules h rows)) ≡ kinds → (row : ScheduleRow) →
-      Among row (schedules h rows) → ofKinds kinds row ≡ true →
-      (row : ScheduleRow) × Eligible day exposed h rows row
-  unfolding eligible
-  by-kinds kinds e row m f = (row, record { of-the-unit = m; passes = rw e f })
-
-  -- some schedule is eligible, where the unit has one, and a C schedule if it runs on cost
-  pub some-eligible :
-      (row : ScheduleRow) → Among row (schedules h rows) → (onCost day ≡ true → hasAny OnlyC (schedules h rows) ≡ true) →
-      (row : ScheduleRow) × Eligible day exposed h rows row
-  unfolding eligibleKinds
-  some-eligible row m on-cost = go (onCost day) exposed (hasAny OnlyM (schedules h rows)) refl refl refl
-    where
-      go :
-          (t u v : Bool) → onCost day ≡ t → exposed ≡ u → hasAny OnlyM (schedules h rows) ≡ v →
-          (row : ScheduleRow) × Eligible day exposed h rows row
-      go true u v e f g =
-          let (other, n, k) = of-kinds OnlyC (schedules h rows) (on-cost e) in
-          by-kinds OnlyC (simp e) other n k
-      go false true v e f g = by-kinds All (simp (e, f)) row m (unfold ofKinds in refl)
-      go false false true e f g =
-          let (other, n, k) = of-kinds OnlyM (schedules h rows) g in
-          by-kinds OnlyM (simp (e, f, g)) other n k
-      go false false false e f g = by-kinds OnlyC (simp (e, f, g)) row m (isn't-M row (none-of-kinds OnlyM g m))

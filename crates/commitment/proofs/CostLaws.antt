@@ -19,7 +19,7 @@ use Rattle.commitment.proofs.UnitLaws.{rows-next, rows-end}
 
 offer-small : (k : Kind) (listed : ℕ) → listed ≤ highest → offerPrice k listed ≤ highest
 unfolding offerPrice capped
-offer-small M listed h = h
+offer-small M listed h = omega arith
 offer-small C listed h = omega arith
 
 -- the most that an hour costs

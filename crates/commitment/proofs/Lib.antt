@@ -4,4 +4,5 @@ pub mod CostLaws
 pub mod ExposedExactly
 pub mod LeastLaws
 pub mod PassingLaws
+pub mod SomeEligible
 pub mod UnitLaws

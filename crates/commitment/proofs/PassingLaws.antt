@@ -2,17 +2,7 @@
 use mathlib.Core.Path.{_≡_, refl, sym, _∙_, ap}
 use mathlib.Core.Logic.{⊎-elim}
 use mathlib.Core.Bool.{Bool, true, false, cond}
-use mathlib.Core.List.{
-  List,
-  [],
-  _∷_,
-  map,
-  List·Memᴰ as Among,
-  List·Memᴰ·head as first,
-  List·Memᴰ·tail as later,
-  List·Memᴰ·cases-cons as among-cases,
-}
-use Rattle.base.proofs.Tests.{false-true}
+use mathlib.Core.List.{List, [], _∷_, map, List·Memᴰ as Among, List·Memᴰ·head as first, List·Memᴰ·tail as later, List·Memᴰ·cases-cons as among-cases}
 use Rattle.commitment.specs.Schedules.{passing}
 
 module _ {A : Type 0} (p : A → Bool) where

@@ -1,14 +1,14 @@
 -- Laws of a unit's rows as a lent run of cells: the row at a place, and what is left behind it. Assumes nothing.
-use Prim.Native.Nat.{ℕ, zero, suc, _+_, _*_, _≤_, _<_}
-use mathlib.Core.Path.{_≡_, refl, sym}
-use mathlib.Core.List.{List, [], _∷_, List·Memᴰ as Among, List·Memᴰ·head as first, List·Memᴰ·tail as later}
+use Prim.Native.Nat.{ℕ, suc, _+_, _≤_, _<_}
+use mathlib.Core.Path.{_≡_, refl}
+use mathlib.Core.List.{List, [], _∷_, List·Memᴰ as Among, List·Memᴰ·head as first}
 use native.Mathlib.Omega.{arith}
 use native.Mathlib.Numerals.{add-one}
-use lib.ListN.{length, drop}
+use lib.ListN.{drop}
 use Rattle.base.proofs.Lists.{drop-map, drop-end, among-drop}
-use Rattle.tables.specs.Rows.{ScheduleRow, scheduleRow, rowsOf, scheduleRows}
+use Rattle.tables.specs.Rows.{scheduleRow, rowsOf, scheduleRows}
 use Rattle.tables.proofs.RowViews.{row-at, schedule-length}
-use Rattle.commitment.specs.Ranges.{InRange, UnitRows, RowAt, rowAt}
+use Rattle.commitment.specs.Ranges.{UnitRows, RowAt, rowAt}
 
 module _ (n : ℕ) (cells : List ℕ) where
   pub rows-next : (i : ℕ) → i < n → drop i (scheduleRows n cells) ≡ rowAt cells i ∷ drop (i + 1) (scheduleRows n cells)

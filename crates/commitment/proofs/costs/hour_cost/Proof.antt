@@ -1,6 +1,5 @@
 -- The cost of an hour. Assumes nothing.
 use native.Mathlib.Omega.{arith}
-use Rattle.commitment.specs.Ranges.{rowAt}
 use Rattle.commitment.specs.Cost.{hourCost}
 use Rattle.commitment.proofs.CostLaws.{output-small}
 use borrow.Author.Needs.{needs}

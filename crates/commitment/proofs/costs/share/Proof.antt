@@ -28,12 +28,11 @@ returns : tie.Need-returns
 returns c =
     let run = c .before .before in
     c .hour-cost .ensures
-    ∙ sym (share-in _ _ _ (omega arith) (run .before .before .cell3 .ensures) (run .before .cell4 .ensures) (sym (run .in-run .ensures) ∙ c .before .if2 .taken))
+    ∙ sym (share-in _ _ _ (omega arith) (omega arith) (omega arith) (sym (run .in-run .ensures) ∙ c .before .if2 .taken))
 
 returns-2 : tie.Need-returns-2
 returns-2 c =
-    let run = c .before in
-    sym (share-out _ _ _ (omega arith) (run .before .before .cell3 .ensures) (run .before .cell4 .ensures) (sym (run .in-run .ensures) ∙ c .if2 .left))
+    sym (share-out _ _ _ (omega arith) (omega arith) (omega arith) (sym (c .before .in-run .ensures) ∙ c .if2 .left))
 
 returns-3 : tie.Need-returns-3
 returns-3 c = sym (share-other _ _ _ (omega arith))

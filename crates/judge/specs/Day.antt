@@ -12,6 +12,7 @@ use Rattle.base.specs.Search.{any, those, firstOf}
 use Rattle.tables.specs.Table.{Column, columnAt, firstColumn}
 use Rattle.tables.specs.declared.files.File.the-variants.{Constraint, Schedules}
 use Rattle.tables.specs.declared.files.Kind.{Kind}
+use Rattle.tables.specs.declared.files.Refusal.{Refusal}
 
 -- a running unit, with the kind and number of its schedule
 pub record RunningUnit : Type 0 where
@@ -67,9 +68,25 @@ runs u rs = any (λ (r : RunningUnit). eqb (r .unit) u) rs
 unfoldable pub without : ℕ → DayView → DayView
 without u d = record { hour = d .hour; running = those (λ (r : RunningUnit). not (eqb (r .unit) u)) (d .running) }
 
--- the number of a release's refusal: "Release checks 24, then 23."
-unfoldable pub releaseRefusal : DayView → ℕ → Option ℕ
-releaseRefusal d u = cond (dayFormed d) (cond (runs u (d .running)) none (some 23)) (some 24)
+-- "a refusal for which no file is named gives file 0 and place 0"
+abbrev pub stateRefused : ℕ → Refusal
+stateRefused n = record { number = n; file = 0; place = 0 }
+
+-- a rule that is kept, or the number of the refusal where it is not
+unfoldable pub unless : Bool → ℕ → Option Refusal
+unless kept n = cond kept none (some (stateRefused n))
+
+-- "Release checks 24, then 23."
+unfoldable pub releaseRefusal : DayView → ℕ → Option Refusal
+releaseRefusal d u = firstOf (unless (dayFormed d) 24 ∷ unless (runs u (d .running)) 23 ∷ [])
+
+-- the day after a release: without the unit, or the very day where it is refused
+unfoldable pub released : DayView → ℕ → DayView
+released d u = after (releaseRefusal d u)
+  where
+    after : Option Refusal → DayView
+    after none = without u d
+    after (some r) = d
 
 -- a unit put among running units by rising number, in place of itself where it runs
 unfoldable pub put : RunningUnit → List RunningUnit → List RunningUnit
@@ -99,11 +116,11 @@ kindRunning u (r ∷ rs) =
     let more = kindRunning u rs in
     cond (eqb (r .unit) u) (some (r .kind)) more
 
--- a unit's schedule, put in the place of a choice, to count the units that would run
-unfoldable pub adds : List ℕ → List RunningUnit → ℕ
-adds us rs = length (those (λ (u : ℕ). not (runs u rs)) us)
+-- 22: "more than 64 units would run", those that run and those studied that don't run yet
+unfoldable pub wouldRun : List ℕ → List RunningUnit → ℕ
+wouldRun us rs = length rs + length (those (λ (u : ℕ). not (runs u rs)) us)
 
 -- opens all of the above, for examples that compute
 unfoldable pub day·all : Unit {0}
-unfolding inColumn hourInRange unitInRange risingInRange dayFormed freshDay runs without releaseRefusal put putAll committed earlier kindRunning adds
+unfolding inColumn hourInRange unitInRange risingInRange dayFormed freshDay runs without unless releaseRefusal released put putAll committed earlier kindRunning wouldRun
 day·all = tt

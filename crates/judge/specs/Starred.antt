@@ -4,13 +4,50 @@ use Prim.Native.Nat.{ℕ}
 use mathlib.Core.Path.{_≡_, refl}
 use mathlib.Core.Bool.{Bool, true, false}
 use mathlib.Core.List.{List, [], _∷_, map}
+use mathlib.Core.Option.{none}
+use Rattle.base.specs.Rising.{rising·all}
+use Rattle.base.specs.Text.{bytes}
+use Rattle.commitment.specs.Choosing.{shown, better, kept, keptAll, candidates, choice}
+use Rattle.commitment.specs.Cost.{offerPrice, price, hourCost, runningCost, inItsRun, share, runCost, startingCost, cost}
+use Rattle.commitment.specs.Exposure.{exposed}
+use Rattle.commitment.specs.Schedules.{
+  passing,
+  atHour,
+  schedules,
+  ofKinds,
+  hasAny,
+  eligibleKinds,
+  eligible as eligibleSchedule,
+}
+use Rattle.filing.specs.Filing.{filing·all}
+use Rattle.filing.specs.Schedules.{schedules·all}
+use Rattle.filing.specs.Supply.{supply·all}
+use Rattle.judge.specs.Answer.{answer·all}
+use Rattle.judge.specs.Day.{freshDay, day·all}
+use Rattle.judge.specs.Decision.{decision·all}
+use Rattle.judge.specs.Study.{decisionRefusal, answerFile, study·all}
+use Rattle.market.specs.Clearing.{
+  eligibleSupply,
+  needOf,
+  short,
+  eligibleUpTo,
+  eligibleBelow,
+  clears,
+  clearing,
+  rowAt,
+  clearingRow,
+}
 use Rattle.market.specs.Offer.{capped}
+use Rattle.market.specs.Parties.{party, met, metAll, parties, relevantOf, amountOf, amounts}
 use Rattle.market.specs.Relevant.{relevant}
-use Rattle.market.specs.Supply.{absDfax, eligible, offer, costBeside}
+use Rattle.market.specs.Supply.{absDfax, eligible, supply, supplyOf, offer, costBeside, atMost, below}
+use Rattle.pivotal.specs.Suppliers.{among}
+use Rattle.tables.proofs.Starred.{constraintFile, supplyFile, schedulesFile, starred·all}
+use Rattle.tables.specs.Hours.{inRun}
 use Rattle.pivotal.specs.Test.{total, begun, fed, fedAll, left, pivotal, verdictOf, tooLarge, refused, tested}
 use Rattle.pivotal.specs.declared.Answer.the-variants.{Tested}
 use Rattle.pivotal.specs.declared.Verdict.the-variants.{P, F}
-use Rattle.tables.specs.Rows.{SupplyRow, size}
+use Rattle.tables.specs.Rows.{SupplyRow, size, kindOf}
 
 -- "Capped offers: 0 gives 0; 9 gives 9; 10 gives 11; 99999 gives 109998; 100001 gives 110001; 190000, 195000 and 200000 each
 -- give 200000."
@@ -60,3 +97,30 @@ at-150 = refl
 above-150 : relevant 1 (atCost 91) (atCost 138) ≡ false
 unfolding relevant·all
 above-150 = refl
+
+-- opens every definition of a study
+unfoldable market·all : Unit {0}
+unfolding relevant·all supply supplyOf atMost below eligibleSupply needOf short eligibleUpTo eligibleBelow clears clearing rowAt clearingRow among party met metAll parties relevantOf amountOf amounts
+market·all = tt
+
+unfoldable choice·all : Unit {0}
+unfolding inRun offerPrice price hourCost runningCost inItsRun share runCost startingCost cost kindOf passing atHour schedules ofKinds hasAny eligibleKinds eligibleSchedule exposed shown better kept keptAll candidates choice
+choice·all = tt
+
+unfoldable engine·all : Unit {0}
+unfolding starred·all rising·all supply·all schedules·all filing·all market·all test·all choice·all day·all answer·all decision·all study·all
+engine·all = tt
+
+-- "Example ★: .. prints"
+abbrev answerExample : List ℕ
+answerExample =
+    bytes
+    "unit,supplier,verdict,left,schedule,kind,cost\r\n11,1,F,0,2,C,1030000\r\n12,2,F,0,1,M,330000\r\n13,3,F,0,1,C,890000\r\n14,4,F,5000000,1,M,500000\r\n"
+
+not-refused : decisionRefusal freshDay constraintFile supplyFile schedulesFile ≡ none
+unfolding engine·all
+not-refused = refl
+
+whole-example : answerFile freshDay constraintFile supplyFile schedulesFile ≡ answerExample
+unfolding engine·all
+whole-example = refl

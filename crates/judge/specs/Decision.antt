@@ -1,0 +1,113 @@
+-- Document 01, "Market and verdict" and "Choice of schedule": what a study decides of each unit of the supply file, from the
+-- rows of its files and the running units of the day it is given. Assumes nothing.
+use Prim.Native.Nat.{ℕ}
+use mathlib.Core.Bool.{Bool, cond, _&&_, not}
+use mathlib.Core.List.{List, map}
+use mathlib.Core.Option.{Option, Option·map, Option·getD}
+use lib.Dec.{eqb}
+use Rattle.base.specs.Search.{any, find, first}
+use Rattle.tables.specs.Rows.{ConstraintRow, SupplyRow, ScheduleRow, letterOf}
+use Rattle.tables.specs.declared.files.Kind.the-variants.{C}
+use Rattle.filing.specs.Supply.{units}
+use Rattle.filing.specs.Schedules.{own}
+use Rattle.market.specs.Clearing.{needOf, short, clearingRow, noRow}
+use Rattle.market.specs.Parties.{party, parties, amounts}
+use Rattle.market.specs.Relevant.{relevant}
+use Rattle.market.specs.Supply.{eligible}
+use Rattle.pivotal.specs.Test.{left, pivotal}
+use Rattle.commitment.specs.Choosing.{choice}
+use Rattle.commitment.specs.Exposure.{Verdict, U, P, F, exposed}
+use Rattle.commitment.specs.Schedules.{schedules, onCost, hasAny}
+use Rattle.commitment.specs.declared.choosing.Choice.{Choice}
+use Rattle.commitment.specs.declared.choosing.Chosen.{Chosen}
+use Rattle.commitment.specs.declared.choosing.Chosen.the-variants.{Schedule, Nothing}
+use Rattle.commitment.specs.declared.choosing.Kinds.the-variants.{OnlyC}
+use Rattle.judge.specs.Answer.{AnswerRow, verdictLetter}
+use Rattle.judge.specs.Day.{RunningUnit, kindRunning}
+
+unfoldable pub ofUnit : ℕ → SupplyRow → Bool
+ofUnit u r = eqb (r .unit) u
+
+-- a row of the unit: its rows share supplier and dfax
+unfoldable pub unitRow : List SupplyRow → ℕ → SupplyRow
+unitRow supply u = Option·getD (find (ofUnit u) supply) noRow
+
+-- the place of a number in a list
+unfoldable pub placeOf : ℕ → List ℕ → ℕ
+placeOf k ks = Option·getD (first (λ (j : ℕ). eqb j k) 0 ks) 0
+
+module _ (c : ConstraintRow) (supply : List SupplyRow) where
+  abbrev pub need : ℕ
+  need = needOf (c .relief)
+
+  -- "the test cannot be performed"
+  unfoldable pub untested : Bool
+  untested = short (c .cutoff) need supply
+
+  -- the row whose cost is the clearing cost
+  unfoldable pub cleared : SupplyRow
+  cleared = clearingRow (c .cutoff) need supply
+
+  -- what the test leaves of the relevant market for the party k
+  unfoldable pub leftOf : ℕ → ℕ
+  leftOf k = left (amounts (c .cutoff) cleared supply) (placeOf k (parties supply))
+
+  -- "every verdict is U and left is 0", or "F when left is below the need, else P"
+  unfoldable pub verdictOf : ℕ → Verdict
+  verdictOf k = cond untested U (cond (pivotal (leftOf k) need) F P)
+
+  unfoldable pub leftShown : ℕ → ℕ
+  leftShown k = cond untested 0 (leftOf k)
+
+  unfoldable pub hasRelevant : ℕ → Bool
+  hasRelevant u = any (λ (r : SupplyRow). ofUnit u r && relevant (c .cutoff) cleared r) supply
+
+  unfoldable pub hasEligible : ℕ → Bool
+  hasEligible u = any (λ (r : SupplyRow). ofUnit u r && eligible (c .cutoff) r) supply
+
+  -- "A unit's verdict is that of its supplier"
+  unfoldable pub exposedUnit : ℕ → Bool
+  exposedUnit u = exposed (verdictOf (party (unitRow supply u))) (hasRelevant u) (hasEligible u)
+
+-- where nothing can be chosen, which is refusal 21
+abbrev pub noChoice : Choice
+noChoice = record { schedule = 0; kind = C; cost = 0 }
+
+abbrev pub chosenOr : Chosen → Choice
+chosenOr Nothing = noChoice
+chosenOr (Schedule s) = s
+
+module _ (c : ConstraintRow) (supply : List SupplyRow) (scheduled : List ScheduleRow) (running : List RunningUnit) where
+  unfoldable pub choiceOf : ℕ → Chosen
+  choiceOf u = choice (kindRunning u running) (exposedUnit c supply u) (c .hour) (own u scheduled)
+
+  -- a unit's row goes by the market, the day's kind for the unit and the unit's own schedule rows, and nothing else
+  unfoldable pub decidedRow : ℕ → AnswerRow
+  decidedRow u =
+      let k = party (unitRow supply u) in
+      let chosen = chosenOr (choiceOf u) in
+      record {
+        unit = u;
+        supplier = unitRow supply u .supplier;
+        verdict = verdictLetter (verdictOf c supply k);
+        left = leftShown c supply k;
+        schedule = chosen .schedule;
+        kind = letterOf (chosen .kind);
+        cost = chosen .cost;
+      }
+
+  unfoldable pub decided : List AnswerRow
+  decided = map decidedRow (units supply)
+
+-- 21: "unit of the supply file, running on cost, has no C schedule (file 3, lowest unit)"
+unfoldable pub lacksCost : ℕ → List ScheduleRow → List RunningUnit → ℕ → Bool
+lacksCost h scheduled running u =
+    onCost (kindRunning u running) && not (hasAny OnlyC (schedules h (own u scheduled)))
+
+unfoldable pub costless : ℕ → List SupplyRow → List ScheduleRow → List RunningUnit → Option ℕ
+costless h supply scheduled running = find (lacksCost h scheduled running) (units supply)
+
+-- opens all of the above, for examples that compute
+unfoldable pub decision·all : Unit {0}
+unfolding ofUnit unitRow placeOf untested cleared leftOf verdictOf leftShown hasRelevant hasEligible exposedUnit choiceOf decidedRow decided lacksCost costless
+decision·all = tt

@@ -1,0 +1,139 @@
+-- Demand 3, as a predicate on the files of a study, the day it was given and any bytes: "those bytes are in the fixed layout,
+-- one row per unit by rising number with its supplier, and the following holds of every row. .." It speaks of rows, removals
+-- and costs alone, never of what the engine computes or keeps. Where it says the relief, the need is meant. Assumes nothing.
+use Prim.Native.Nat.{ℕ, _≤_, _<_}
+use mathlib.Core.Path.{_≡_}
+use mathlib.Core.Logic.{_≢_, _↔_}
+use mathlib.Core.Bool.{Bool, true}
+use mathlib.Core.List.{List, [], _∷_, _++_, map, List·Memᴰ as Among}
+use Rattle.base.specs.Rising.{RisingFrom}
+use Rattle.base.specs.Search.{All}
+use Rattle.numeral.specs.Numeral.{Numeral}
+use Rattle.tables.specs.Rows.{ConstraintRow, SupplyRow, ScheduleRow, letterOf}
+use Rattle.tables.specs.declared.files.Kind.{Kind}
+use Rattle.filing.specs.Filing.{constraintOf, supplyOf, schedulesOf}
+use Rattle.filing.specs.Schedules.{own}
+use Rattle.market.specs.Clearing.{Clears, needOf, eligibleSupply}
+use Rattle.market.specs.Parties.{party}
+use Rattle.market.specs.Relevant.{relevant}
+use Rattle.market.specs.Removals.{Removes, remaining}
+use Rattle.market.specs.Supply.{eligible}
+use Rattle.commitment.specs.Exposure.{Verdict, U, P, F}
+use Rattle.commitment.specs.Right.{RightChoice}
+use Rattle.judge.specs.Answer.{AnswerRow, verdictLetter, answerHeader, COMMA, CRLF}
+use Rattle.judge.specs.Day.{RunningUnit, DayView, kindRunning}
+
+-- a row's record, in numerals as the files have them
+pub record Line (r : AnswerRow) (text : List ℕ) : Type 0 where
+  pub unit : List ℕ
+  pub supplier : List ℕ
+  pub left : List ℕ
+  pub schedule : List ℕ
+  pub cost : List ℕ
+  pub unit-shown : Numeral unit (r .unit)
+  pub supplier-shown : Numeral supplier (r .supplier)
+  pub left-shown : Numeral left (r .left)
+  pub schedule-shown : Numeral schedule (r .schedule)
+  pub cost-shown : Numeral cost (r .cost)
+  pub laid-out :
+      text
+      ≡ unit ++ COMMA ∷ supplier ++ COMMA ∷ r .verdict ∷ COMMA ∷ left ++ COMMA ∷ schedule ++ COMMA ∷ r .kind ∷ COMMA ∷ cost ++ CRLF
+
+-- the records of rows, one behind the other
+pub data Lines : List AnswerRow → List ℕ → Type 0 where
+  end : Lines [] []
+  next :
+      {r : AnswerRow} {rs : List AnswerRow} {text first more : List ℕ} →
+      Line r first → Lines rs more → text ≡ first ++ more → Lines (r ∷ rs) text
+
+-- "in the fixed layout"
+pub record InLayout (rs : List AnswerRow) (text : List ℕ) : Type 0 where
+  pub body : List ℕ
+  pub laid-out : text ≡ answerHeader ++ body
+  pub records : Lines rs body
+
+module _ (c : ConstraintRow) (supply : List SupplyRow) where
+  abbrev pub needed : ℕ
+  needed = needOf (c .relief)
+
+  -- a row that clears
+  abbrev pub Clearing : SupplyRow → Type 0
+  Clearing q = Clears (c .cutoff) needed supply q
+
+  -- "A removal takes away the row's supplier together with none, one or two other suppliers."
+  abbrev pub Removal : ℕ → List ℕ → Type 0
+  Removal k taken = Removes supply k taken
+
+  -- "It shows U exactly when eligible supply is short of the relief. .. Where the row doesn't show U, it shows F exactly when
+  -- some removal leaves the relevant market less than the relief, else P. The amount left is 0 for U; otherwise some removal
+  -- leaves exactly that amount, and every other removal leaves at least as much."
+  pub record RightTest (k : ℕ) (verdict left : ℕ) : Type 0 where
+    pub shows-U : (verdict ≡ verdictLetter U) ↔ (eligibleSupply (c .cutoff) supply < needed)
+    pub shows-F :
+        verdict ≢ verdictLetter U → (q : SupplyRow) → Clearing q →
+        (verdict ≡ verdictLetter F) ↔ ((taken : List ℕ) × Removal k taken × (remaining (c .cutoff) q taken supply < needed))
+    pub else-P : verdict ≢ verdictLetter U → verdict ≢ verdictLetter F → verdict ≡ verdictLetter P
+    pub nothing-left : verdict ≡ verdictLetter U → left ≡ 0
+    pub reached :
+        verdict ≢ verdictLetter U → (q : SupplyRow) → Clearing q →
+        (taken : List ℕ) × Removal k taken × (remaining (c .cutoff) q taken supply ≡ left)
+    pub least :
+        verdict ≢ verdictLetter U → (q : SupplyRow) → Clearing q →
+        (taken : List ℕ) → Removal k taken → left ≤ remaining (c .cutoff) q taken supply
+
+  -- a row of the unit
+  pub record RowOf (u : ℕ) (w : SupplyRow) : Type 0 where
+    pub a-row : Among w supply
+    pub its-unit : w .unit ≡ u
+
+  pub record RelevantRow (u : ℕ) : Type 0 where
+    pub row : SupplyRow
+    pub of-the-unit : RowOf u row
+    pub cleared : SupplyRow
+    pub clears : Clearing cleared
+    pub is-relevant : relevant (c .cutoff) cleared row ≡ true
+
+  pub record EligibleRow (u : ℕ) : Type 0 where
+    pub row : SupplyRow
+    pub of-the-unit : RowOf u row
+    pub is-eligible : eligible (c .cutoff) row ≡ true
+
+  -- "A unit is exposed when its verdict is F and it has a relevant row, or its verdict is U and it has an eligible row." It goes
+  -- by the verdict that the row shows, which the clauses on U and F make the true one
+  pub data Exposed (u verdict : ℕ) : Type 0 where
+    failed : verdict ≡ verdictLetter F → RelevantRow u → Exposed u verdict
+    untested : verdict ≡ verdictLetter U → EligibleRow u → Exposed u verdict
+
+  -- "The schedule is an eligible one of the unit, with its true kind and cost. Every other eligible schedule of the unit costs at
+  -- least as much, and one that costs the same has a larger number."
+  pub record RightSchedule (scheduled : List ScheduleRow) (running : List RunningUnit) (r : AnswerRow) : Type 0 where
+    pub exposed : Bool
+    pub exposed-exactly : (exposed ≡ true) ↔ Exposed (r .unit) (r .verdict)
+    pub kind : Kind
+    pub kind-shown : r .kind ≡ letterOf kind
+    pub right :
+        RightChoice
+        (kindRunning (r .unit) running)
+        exposed
+        (c .hour)
+        (own (r .unit) scheduled)
+        (record { schedule = r .schedule; kind = kind; cost = r .cost })
+
+  pub record RightRow (scheduled : List ScheduleRow) (running : List RunningUnit) (r : AnswerRow) : Type 0 where
+    -- "with its supplier"
+    pub supplier : (w : SupplyRow) → RowOf (r .unit) w → r .supplier ≡ w .supplier
+    pub tested : (w : SupplyRow) → RowOf (r .unit) w → RightTest (party w) (r .verdict) (r .left)
+    pub schedule : RightSchedule scheduled running r
+
+  -- "one row per unit by rising number"
+  pub record RowPerUnit (rs : List AnswerRow) : Type 0 where
+    pub rising : RisingFrom 0 (map (λ (r : AnswerRow). r .unit) rs)
+    pub a-unit : (r : AnswerRow) → Among r rs → (w : SupplyRow) × RowOf (r .unit) w
+    pub every-unit : (w : SupplyRow) → Among w supply → (r : AnswerRow) × Among r rs × (r .unit ≡ w .unit)
+
+-- demand 3
+pub record Right (d : DayView) (c s h : List ℕ) (text : List ℕ) : Type 0 where
+  pub rows : List AnswerRow
+  pub in-layout : InLayout rows text
+  pub per-unit : RowPerUnit (constraintOf c) (supplyOf s) rows
+  pub every-row : All (RightRow (constraintOf c) (supplyOf s) (schedulesOf h) (d .running)) rows

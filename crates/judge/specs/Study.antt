@@ -1,0 +1,76 @@
+-- Document 01: the whole outcome of a study, for any day, any files and any lent buffer: the refusals as one list, "24; then
+-- file by file 1, 2, 4, 3, 5, 6, 7, each over the whole file; then 8, 9, 20, 21, 22, 10", the day afterwards and every byte
+-- of the buffer. Assumes nothing.
+use Prim.Native.Nat.{ℕ}
+use mathlib.Core.Bool.{not}
+use mathlib.Core.List.{List, [], _∷_, _++_, map}
+use mathlib.Core.Option.{Option, none, some, Option·map}
+use lib.Dec.{leb}
+use lib.ListN.{length, drop}
+use Rattle.base.specs.Search.{firstOf}
+use Rattle.tables.specs.Reading.{refused}
+use Rattle.tables.specs.Rows.{kindOf}
+use Rattle.tables.specs.declared.files.File.the-variants.{Schedules}
+use Rattle.tables.specs.declared.files.Refusal.{Refusal}
+use Rattle.filing.specs.Filing.{constraintOf, supplyOf, schedulesOf, filingRefusal}
+use Rattle.filing.specs.Supply.{units}
+use Rattle.judge.specs.Answer.{AnswerRow, answerText}
+use Rattle.judge.specs.Day.{RunningUnit, DayView, mostRunning, dayFormed, unless, earlier, wouldRun, committed}
+use Rattle.judge.specs.Decision.{decided, costless}
+
+-- what an answer's row has running
+unfoldable pub chosen : AnswerRow → RunningUnit
+chosen r = record { unit = r .unit; schedule = r .schedule; kind = kindOf (r .kind) }
+
+-- the bytes of a buffer once a text is written from its start: "Bytes past the answer stay"
+unfoldable pub written : List ℕ → List ℕ → List ℕ
+written text buffer = text ++ drop (length text) buffer
+
+pub record Outcome : Type 0 where
+  pub refusal : Option Refusal
+  pub day : DayView
+  pub buffer : List ℕ
+
+module _ (d : DayView) (c s h : List ℕ) where
+  abbrev pub studyHour : ℕ
+  studyHour = constraintOf c .hour
+
+  -- the rows of the answer
+  unfoldable pub studyRows : List AnswerRow
+  studyRows = decided (constraintOf c) (supplyOf s) (schedulesOf h) (d .running)
+
+  -- the answer file
+  unfoldable pub answerFile : List ℕ
+  answerFile = answerText studyRows
+
+  -- the first refusal but for 10, which alone goes by the buffer
+  unfoldable pub decisionRefusal : Option Refusal
+  decisionRefusal =
+      firstOf
+      (unless (dayFormed d) 24
+      ∷ filingRefusal c s h
+      ∷ unless (not (earlier studyHour (d .hour))) 20
+      ∷ Option·map (refused 21 Schedules) (costless studyHour (supplyOf s) (schedulesOf h) (d .running))
+      ∷ unless (leb (wouldRun (units (supplyOf s)) (d .running)) mostRunning) 22
+      ∷ [])
+
+  unfoldable pub studyRefusal : ℕ → Option Refusal
+  studyRefusal room = firstOf (decisionRefusal ∷ unless (leb (length answerFile) room) 10 ∷ [])
+
+  -- "An accepted study sets the hour and makes each of its units running on the chosen schedule; every other running unit
+  -- stays as it was."
+  unfoldable pub dayAfter : DayView
+  dayAfter = committed studyHour (map chosen studyRows) d
+
+  -- "A refused call returns the day it was given and changes no byte of the answer buffer."
+  unfoldable pub studied : List ℕ → Outcome
+  studied buffer = outcome (studyRefusal (length buffer))
+    where
+      outcome : Option Refusal → Outcome
+      outcome (some r) = record { refusal = some r; day = d; buffer = buffer }
+      outcome none = record { refusal = none; day = dayAfter; buffer = written answerFile buffer }
+
+-- opens all of the above, for examples that compute
+unfoldable pub study·all : Unit {0}
+unfolding chosen written studyRows answerFile decisionRefusal studyRefusal dayAfter studied
+study·all = tt

@@ -17,3 +17,5 @@ pub use parties::list_parties;
 pub use relevant::is_relevant;
 pub use rows::effective_supply;
 pub use rows::is_eligible;
+pub use rows::party;
+pub use rows::supplier;

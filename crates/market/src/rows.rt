@@ -29,6 +29,13 @@ pub fn party(cells: &[u64], row: usize) -> u64
     cells[row * WIDTH + SUPPLIER]
 }
 
+pub fn supplier(cells: &[u64], row: usize) -> u64
+    requires { ⌜ RowCells (now cells) row ⌝ }
+    ensures { λ r. ⌜ r ≡ cellsRow (now (cells .entry)) row .supplier ⌝ }
+{
+    cells[row * WIDTH + SUPPLIER]
+}
+
 fn abs_dfax(cells: &[u64], row: usize) -> u64
     requires { ⌜ RowCells (now cells) row ⌝ }
     ensures { λ r. ⌜ r ≡ absDfax (cellsRow (now (cells .entry)) row) ⌝ }

@@ -1,0 +1,5 @@
+pub mod ChoosingLaws
+pub mod DecidingLaws
+pub mod StandingLaws
+pub mod TestingLaws
+pub mod UnitLaws

@@ -1,0 +1,149 @@
+-- Laws of a unit's test: one for each way through the code. Assumes nothing.
+use Prim.Native.Nat.{ℕ, _≤_, _<_}
+use mathlib.Core.Path.{_≡_, refl, sym, _∙_, ap}
+use mathlib.Core.Bool.{Bool, true, false, _&&_}
+use mathlib.Core.List.{List}
+use native.Mathlib.Omega.{arith}
+use lib.ListN.{length, take, length-map, length-take}
+use Rattle.base.specs.Search.{any}
+use Rattle.tables.specs.Rows.{ConstraintRow, SupplyRow, constraintRow, supplyRows}
+use Rattle.tables.proofs.RowViews.{supply-length}
+use Rattle.market.specs.Clearing.{needOf, clearing}
+use Rattle.market.specs.Parties.{party, parties, amountOf, amounts}
+use Rattle.market.specs.Ranges.{cellsRow}
+use Rattle.market.proofs.RangeLaws.{amounts-limited}
+use Rattle.pivotal.specs.Tally.{Limited}
+use Rattle.pivotal.specs.Test.{left, pivotal}
+use Rattle.commitment.specs.Exposure.{exposed}
+use Rattle.judge.specs.Decision.{
+  need,
+  ofUnit,
+  unitRow,
+  placeOf,
+  untested,
+  cleared,
+  leftOf,
+  verdictOf,
+  leftShown,
+  hasRelevant,
+  hasEligible,
+  exposedUnit,
+}
+use Rattle.decision.specs.Standing.{MarketCells, standing, Stands}
+use Rattle.decision.specs.Testing.{unitTest, InMarket}
+use Rattle.decision.specs.Units.{wantedRow}
+use Rattle.decision.specs.declared.standing.Standing.{Standing}
+use Rattle.decision.specs.declared.standing.Standing.the-variants.{Short, Cleared}
+use Rattle.decision.specs.declared.units.Wanted.the-variants.{Eligible, Relevant}
+use Rattle.decision.proofs.StandingLaws.{clears-within, cleared-row}
+
+-- what each standing says
+module _ (c : ConstraintRow) (supply : List SupplyRow) where
+  short-stands : untested c supply ≡ true → standing c supply ≡ Short
+  unfolding standing
+  short-stands e = simp e
+
+  cleared-stands : untested c supply ≡ false → standing c supply ≡ Cleared (clearing (c .cutoff) (need c supply) supply) (length (parties supply))
+  unfolding standing
+  cleared-stands e = simp e
+
+  module _ (ps amounts′ : List ℕ) {r : Standing} (stands : Stands c supply ps amounts′ r) where
+    pub was-short : r ≡ Short → untested c supply ≡ true
+    was-short e = go (untested c supply) refl
+      where
+        go : (t : Bool) → untested c supply ≡ t → untested c supply ≡ true
+        go true f = f
+        go false f = let z : _≡_ {A = ℕ} 0 1 = cc (stands .answers, e, cleared-stands f) in absurd (omega arith)
+
+    pub was-cleared :
+        {q count : ℕ} → r ≡ Cleared q count →
+        (count ≡ length (parties supply)) × InMarket c supply q (take count ps) (take count amounts′)
+    was-cleared {q} {count} e = go (untested c supply) refl
+      where
+        go : (t : Bool) → untested c supply ≡ t → (count ≡ length (parties supply)) × InMarket c supply q (take count ps) (take count amounts′)
+        go true f = let z : _≡_ {A = ℕ} 0 1 = cc (stands .answers, e, short-stands f) in absurd (omega arith)
+        go false f =
+            let counted : count ≡ length (parties supply) = cc (stands .answers, e, cleared-stands f) in
+            let clears : q ≡ clearing (c .cutoff) (need c supply) supply = cc (stands .answers, e, cleared-stands f) in
+            (counted, record { enough = f; clears = clears; all-parties = rw counted (stands .listed f); all-amounts = rw counted (stands .added f) })
+
+    -- as the parts that are lent
+    pub lent-market :
+        {q count : ℕ} → r ≡ Cleared q count → (k : ℕ) → k ≡ count → InMarket c supply q (take k ps) (take k amounts′)
+    lent-market e k f = rw f (was-cleared e .1)
+
+    -- the parties and amounts reach as far as there are parties
+    pub parties-reach : {q count : ℕ} → r ≡ Cleared q count → (count ≤ length ps) × (count ≤ length amounts′)
+    unfolding amounts
+    parties-reach {q} {count} e =
+        let (counted, found) = was-cleared e in
+        let all : length (take count ps) ≡ count = ap length (found .all-parties) ∙ sym counted in
+        let each : length (take count amounts′) ≡ count = ap length (found .all-amounts) ∙ amounts-length _ ∙ sym counted in
+        (reach ps all, reach amounts′ each)
+      where
+        amounts-length : (q : SupplyRow) → length (amounts (c .cutoff) q supply) ≡ length (parties supply)
+        amounts-length q = length-map (parties supply) (amountOf (c .cutoff) q supply)
+
+        reach : (l : List ℕ) → length (take count l) ≡ count → count ≤ length l
+        reach l z = omega (arith, length-take count l)
+
+-- the test of a unit, whose row is w
+module _ (c : ConstraintRow) (supply : List SupplyRow) (u : ℕ) (w : SupplyRow) (found : w ≡ unitRow supply u) (x : ℕ) (its : x ≡ w .supplier) where
+  supplier-shown : x ≡ unitRow supply u .supplier
+  supplier-shown = its ∙ ap (λ (r : SupplyRow). r .supplier) found
+
+  pub test-short :
+      untested c supply ≡ true → (e : Bool) → e ≡ hasEligible c supply u →
+      record { supplier = x; verdict = 0x55; left = 0; exposed = e } ≡ unitTest c supply u
+  unfolding unitTest verdictOf leftShown exposedUnit exposed
+  test-short f e g = simp (f, g, supplier-shown)
+
+  module _ (enough : untested c supply ≡ false) (remains : ℕ) (l : remains ≡ leftOf c supply (party (unitRow supply u))) where
+    pub test-failed :
+        pivotal remains (needOf (c .relief)) ≡ true → (e : Bool) → e ≡ hasRelevant c supply u →
+        record { supplier = x; verdict = 0x46; left = remains; exposed = e } ≡ unitTest c supply u
+    unfolding unitTest verdictOf leftShown exposedUnit exposed
+    test-failed f e g =
+        let fails : pivotal (leftOf c supply (party (unitRow supply u))) (needOf (c .relief)) ≡ true = rw l at f in
+        simp (enough, fails, g, supplier-shown, l)
+
+    pub test-passed :
+        pivotal remains (needOf (c .relief)) ≡ false →
+        record { supplier = x; verdict = 0x50; left = remains; exposed = false } ≡ unitTest c supply u
+    unfolding unitTest verdictOf leftShown exposedUnit exposed
+    test-passed f =
+        let passes : pivotal (leftOf c supply (party (unitRow supply u))) (needOf (c .relief)) ≡ false = rw l at f in
+        simp (enough, passes, supplier-shown, l)
+
+-- what is asked for, as the code asks it
+pub eligible-wanted :
+    (c : ConstraintRow) (supply : List SupplyRow) (cells : List ℕ) (u : ℕ) (e : Bool) →
+    e ≡ any (λ (row : SupplyRow). ofUnit u row && wantedRow cells (c .cutoff) Eligible row) supply → e ≡ hasEligible c supply u
+unfolding hasEligible wantedRow
+eligible-wanted c supply cells u e f = f
+
+module _
+    (constraint : List ℕ) (n : ℕ) (cells : List ℕ) (market : MarketCells constraint n cells) {q : ℕ} {ps amounts′ : List ℕ}
+    (in-market : InMarket (constraintRow constraint) (supplyRows n cells) q ps amounts′)
+  where
+    pub relevant-wanted :
+        (u : ℕ) (e : Bool) →
+        e ≡ any (λ (row : SupplyRow). ofUnit u row && wantedRow cells (constraintRow constraint .cutoff) (Relevant q) row) (supplyRows n cells) →
+        e ≡ hasRelevant (constraintRow constraint) (supplyRows n cells) u
+    unfolding hasRelevant wantedRow
+    relevant-wanted u e f = rw (← cleared-row constraint n cells market (in-market .enough) q (in-market .clears)) f
+
+    pub market-clears : q < n
+    market-clears = omega (arith, in-market .clears, clears-within constraint n cells market (in-market .enough))
+
+    pub market-limited : Limited amounts′
+    market-limited =
+        rw (in-market .all-amounts)
+        (amounts-limited _ _ (supplyRows n cells) (market .rows .permitted) (omega (arith, supply-length n cells, market .rows .few)) (market .few-parties))
+
+    pub remains-left :
+        (u : ℕ) (w : SupplyRow) → w ≡ unitRow (supplyRows n cells) u → (k place remains : ℕ) → k ≡ party w → place ≡ placeOf k ps →
+        remains ≡ left amounts′ place →
+        remains ≡ leftOf (constraintRow constraint) (supplyRows n cells) (party (unitRow (supplyRows n cells) u))
+    unfolding leftOf
+    remains-left u w found k place remains a b d = d ∙ rw (b, a, found, in-market .all-parties, in-market .all-amounts)

@@ -1,0 +1,4 @@
+pub mod Deciding
+pub mod Standing
+pub mod Testing
+pub mod Units

@@ -1,0 +1,35 @@
+-- How the market stands, as the code answers it, and the parties and amounts that it lays down. Assumes nothing.
+use Prim.Native.Nat.{ℕ, _≤_}
+use mathlib.Core.Path.{_≡_}
+use mathlib.Core.Bool.{false, cond}
+use mathlib.Core.List.{List}
+use lib.ListN.{length, take}
+use Rattle.tables.specs.Ranges.{PermittedConstraint}
+use Rattle.tables.specs.Rows.{ConstraintRow, SupplyRow, constraintRow, supplyRows}
+use Rattle.market.specs.Clearing.{needOf, clearing}
+use Rattle.market.specs.Parties.{parties, amounts}
+use Rattle.market.specs.Ranges.{SupplyCells}
+use Rattle.pivotal.specs.Test.{mostAmounts}
+use Rattle.judge.specs.Decision.{need, untested, cleared}
+use Rattle.decision.specs.declared.standing.Standing.{Standing}
+use Rattle.decision.specs.declared.standing.Standing.the-variants.{Short, Cleared}
+
+-- as many parties as the test takes amounts
+abbrev pub mostParties : ℕ
+mostParties = mostAmounts
+
+-- what holds of the constraint and supply rows of a study: they are in their ranges, and of few parties
+pub record MarketCells (constraint : List ℕ) (n : ℕ) (cells : List ℕ) : Type 0 where
+  pub room : 3 ≤ length constraint
+  pub permitted : PermittedConstraint (constraintRow constraint)
+  pub rows : SupplyCells n cells
+  pub few-parties : length (parties (supplyRows n cells)) ≤ mostParties
+
+module _ (c : ConstraintRow) (supply : List SupplyRow) where
+  unfoldable pub standing : Standing
+  standing = cond (untested c supply) Short (Cleared (clearing (c .cutoff) (need c supply) supply) (length (parties supply)))
+
+  pub record Stands (ps amounts′ : List ℕ) (r : Standing) : Type 0 where
+    pub answers : r ≡ standing
+    pub listed : untested c supply ≡ false → take (length (parties supply)) ps ≡ parties supply
+    pub added : untested c supply ≡ false → take (length (parties supply)) amounts′ ≡ amounts (c .cutoff) (cleared c supply) supply

@@ -1,0 +1,27 @@
+-- A unit's supply rows, as they stand in cells. Assumes nothing.
+use Prim.Native.Nat.{ℕ, _<_}
+use mathlib.Core.Path.{_≡_}
+use mathlib.Core.Bool.{Bool}
+use mathlib.Core.List.{List}
+use Rattle.tables.specs.Rows.{SupplyRow, supplyRows}
+use Rattle.market.specs.Ranges.{RowCells, cellsRow}
+use Rattle.market.specs.Relevant.{relevant}
+use Rattle.market.specs.Supply.{eligible}
+use Rattle.judge.specs.Decision.{unitRow}
+use Rattle.decision.specs.declared.units.Wanted.{Wanted}
+use Rattle.decision.specs.declared.units.Wanted.the-variants.{Eligible, Relevant}
+
+-- the place of the unit's row among n
+pub record UnitFound (u n : ℕ) (cells : List ℕ) (r : ℕ) : Type 0 where
+  pub within : r < n
+  pub found : cellsRow cells r ≡ unitRow (supplyRows n cells) u
+
+-- whether a row is wanted
+unfoldable pub wantedRow : List ℕ → ℕ → Wanted → SupplyRow → Bool
+wantedRow cells cutoff Eligible = eligible cutoff
+wantedRow cells cutoff (Relevant q) = relevant cutoff (cellsRow cells q)
+
+-- the row that clears stands in the cells
+abbrev pub WantedCells : List ℕ → Wanted → Type 0
+WantedCells cells Eligible = Unit {0}
+WantedCells cells (Relevant q) = RowCells cells q

@@ -1,0 +1,95 @@
+// A unit's supply rows, and the place of its party.
+ghost use mathlib.Core.Path.{_≡_};
+ghost use mathlib.Core.Bool.{true, _&&_};
+ghost use Rattle.base.specs.Search.{any};
+ghost use Rattle.tables.specs.Rows.{SupplyRow, supplyRows};
+ghost use Rattle.market.specs.Ranges.{RowCells, SupplyCells, cellsRow};
+ghost use Rattle.judge.specs.Decision.{ofUnit, placeOf};
+ghost use Rattle.decision.specs.Units.{UnitFound, wantedRow, WantedCells};
+use market::is_eligible;
+use market::is_relevant;
+
+// The cells of a supply row, of which the unit's is the first.
+const WIDTH: usize = 5;
+
+// The rows that expose a unit: the eligible ones, or the relevant ones where the row at a place
+// clears.
+pub enum Wanted {
+    Eligible,
+    Relevant(usize),
+}
+
+// The place of the first of the unit's rows.
+pub fn row_of(cells: &[u64], n: usize, unit: u64) -> usize
+    requires { ⌜ SupplyCells n (now cells) ⌝ }
+    requires { ⌜ any (ofUnit unit) (supplyRows n (now cells)) ≡ true ⌝ }
+    ensures { λ r. ⌜ UnitFound unit n (now (cells .entry)) r ⌝ }
+{
+    let mut row = 0;
+    while row + 1 < n {
+        if is_of(cells, row, unit) {
+            return row;
+        }
+        row += 1;
+    }
+    row
+}
+
+// Whether one of the unit's rows is wanted.
+pub fn has_wanted(cells: &[u64], n: usize, unit: u64, cutoff: u64, wanted: Wanted) -> bool
+    requires { ⌜ SupplyCells n (now cells) ⌝ }
+    requires { ⌜ WantedCells (now cells) wanted ⌝ }
+    ensures { λ r. ⌜ r ≡ any (λ (row : SupplyRow). ofUnit unit row && wantedRow (now (cells .entry)) cutoff wanted row) (supplyRows n (now (cells .entry))) ⌝ }
+{
+    let mut row = 0;
+    while row < n {
+        if is_wanted_of(cells, row, unit, cutoff, wanted) {
+            return true;
+        }
+        row += 1;
+    }
+    false
+}
+
+fn is_of(cells: &[u64], row: usize, unit: u64) -> bool
+    requires { ⌜ RowCells (now cells) row ⌝ }
+    ensures { λ r. ⌜ r ≡ ofUnit unit (cellsRow (now (cells .entry)) row) ⌝ }
+{
+    cells[row * WIDTH] == unit
+}
+
+fn is_wanted_of(cells: &[u64], row: usize, unit: u64, cutoff: u64, wanted: Wanted) -> bool
+    requires { ⌜ RowCells (now cells) row ⌝ }
+    requires { ⌜ WantedCells (now cells) wanted ⌝ }
+    ensures { λ r. ⌜ r ≡ (ofUnit unit (cellsRow (now (cells .entry)) row) && wantedRow (now (cells .entry)) cutoff wanted (cellsRow (now (cells .entry)) row)) ⌝ }
+{
+    if is_of(cells, row, unit) {
+        return is_wanted(cells, row, cutoff, wanted);
+    }
+    false
+}
+
+fn is_wanted(cells: &[u64], row: usize, cutoff: u64, wanted: Wanted) -> bool
+    requires { ⌜ RowCells (now cells) row ⌝ }
+    requires { ⌜ WantedCells (now cells) wanted ⌝ }
+    ensures { λ r. ⌜ r ≡ wantedRow (now (cells .entry)) cutoff wanted (cellsRow (now (cells .entry)) row) ⌝ }
+{
+    match wanted {
+        Wanted::Eligible => is_eligible(cells, row, cutoff),
+        Wanted::Relevant(clearing) => is_relevant(cells, row, clearing, cutoff),
+    }
+}
+
+// The place of a number in a list, 0 where it isn't there.
+pub fn place_of(k: u64, list: &[u64]) -> usize
+    ensures { λ r. ⌜ r ≡ placeOf k (now (list .entry)) ⌝ }
+{
+    let mut i = 0;
+    while i < list.len() {
+        if list[i] == k {
+            return i;
+        }
+        i += 1;
+    }
+    0
+}

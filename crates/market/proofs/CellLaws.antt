@@ -4,11 +4,11 @@ use Prim.Native.Nat.{ℕ, _+_, _-_, _*_, _≤_, _<_}
 use mathlib.Core.Path.{_≡_, refl, sym, _∙_}
 use mathlib.Core.List.{List, [], _∷_, List·Memᴰ, List·Memᴰ·head}
 use native.Mathlib.Omega.{arith}
-use lib.ListN.{length, getD, drop}
+use lib.ListN.{getD, drop}
 use lib.Seq.{getD-drop}
 use Rattle.base.proofs.Lists.{drop-end}
 use Rattle.base.proofs.Members.{member-of-rest}
-use Rattle.tables.specs.Rows.{SupplyRow, supplyRows, size}
+use Rattle.tables.specs.Rows.{supplyRows, size}
 use Rattle.tables.proofs.RowViews.{supplyAt, supply-next, supply-length}
 use Rattle.market.specs.Offer.{capped}
 use Rattle.market.specs.Supply.{absDfax, supply, offer, costBeside}

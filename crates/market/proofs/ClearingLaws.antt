@@ -2,16 +2,15 @@
 -- have one cost; and the search finds one. A cutoff and a need are at least 1, as the table has them. Assumes nothing.
 use Prim.Native.Nat.{ℕ, _+_, _≤_, _<_}
 use mathlib.Core.Path.{_≡_, refl, sym, _∙_}
-use mathlib.Core.Logic.{_⊎_, inl, inr, ⊎-elim, _↔_}
+use mathlib.Core.Logic.{⊎-elim, _↔_}
 use mathlib.Core.Bool.{Bool, true, false, _&&_}
 use mathlib.Core.List.{List, List·Memᴰ}
-use mathlib.Core.Option.{Option, none, some, Option·getD}
+use mathlib.Core.Option.{Option, Option·getD}
 use native.Mathlib.Omega.{arith}
 use lib.Dec.{leb, ltb}
 use lib.ListN.{length, getD}
 use borrow.Author.Tests.{le-leb, leb-true, lt-ltb, le-ltb, ltb-true, ltb-false}
-use Rattle.base.specs.Search.{first}
-use Rattle.base.proofs.Tests.{false-true, either, lt-or-ge, and-fst, and-snd}
+use Rattle.base.proofs.Tests.{false-true, lt-or-ge, and-fst, and-snd}
 use Rattle.base.proofs.Members.{Lowest, lowest, Finds, it, nothing, finds, member-at}
 use Rattle.tables.specs.Rows.{SupplyRow}
 use Rattle.market.specs.Supply.{absDfax, eligible, supplyOf, atMost, below}

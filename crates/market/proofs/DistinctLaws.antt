@@ -2,14 +2,14 @@
 -- some are taken away. Assumes nothing.
 use Prim.Native.Nat.{ℕ, zero, suc, _<_}
 use mathlib.Core.Path.{_≡_, refl, sym, _∙_, ap}
-use mathlib.Core.Logic.{_≢_, ⊎-elim}
+use mathlib.Core.Logic.{_≢_}
 use mathlib.Core.Bool.{Bool, true, false, cond, _&&_, _||_, not, and-false}
 use mathlib.Core.List.{List, [], _∷_, _++_, List·Memᴰ, List·Memᴰ·head, List·Memᴰ·tail, Memᴰ·cast}
 use native.Mathlib.Omega.{arith}
 use lib.Dec.{eqb}
 use lib.ListN.{length, getD}
 use borrow.Author.Tests.{eq-eqb, ne-eqb, eqb-true, eqb-false}
-use Rattle.base.proofs.Tests.{either, eq-or-ne, false-true, or-fst, or-snd}
+use Rattle.base.proofs.Tests.{false-true, or-fst, or-snd}
 use Rattle.base.proofs.Members.{member-at}
 use Rattle.pivotal.specs.Suppliers.{Absent, Distinct, among, staying}
 

@@ -1,13 +1,11 @@
 -- Laws of listing parties, one row after the other, and of writing an amount for each, over plain lists. Assumes nothing.
 use Prim.Native.Nat.{ℕ, suc, _+_, _≤_, _<_}
 use mathlib.Core.Path.{_≡_, refl, sym, _∙_, ap}
-use mathlib.Core.Logic.{⊎-elim}
 use mathlib.Core.Bool.{Bool, true, false, cond}
 use mathlib.Core.List.{List, [], _∷_, _++_, map, map-append}
 use native.Mathlib.Omega.{arith}
 use native.Mathlib.Numerals.{add-one}
-use lib.Dec.{eqb}
-use lib.ListN.{length, getD, take, drop, set, length-take, length-drop, length-append, length-set, length-map, take-append-drop}
+use lib.ListN.{length, getD, take, drop, set, length-drop, length-append, length-set, length-map, take-append-drop}
 use lib.Seq.{length-take-le, getD-take, take-suc, set-split, set-at, append-snoc}
 use borrow.Author.Tests.{eq-eqb, ne-eqb}
 use Rattle.base.specs.Writing.{Wrote}

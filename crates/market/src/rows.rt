@@ -1,7 +1,6 @@
 // What a supply row is, from its cells: its party, effective supply, eligibility, and its effective
 // cost beside another row's.
 ghost use mathlib.Core.Path.{_≡_};
-ghost use Prim.Native.Nat.{_≤_};
 ghost use Rattle.market.specs.Ranges.{RowCells, cellsRow};
 ghost use Rattle.market.specs.Supply.{absDfax, supply, eligible, costBeside};
 ghost use Rattle.market.specs.Parties.{party as Parties·party};

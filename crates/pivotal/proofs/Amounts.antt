@@ -33,6 +33,9 @@ set-gone [] p = refl
 set-gone (a ∷ s) zero = refl
 set-gone (a ∷ s) (suc p) = set-gone s p
 
+pub gone-at : (s : List ℕ) (p i : ℕ) → i ≡ p → 0 ≡ getD (set s p 0) i 0
+gone-at s p i e = rw e (sym (set-gone s p))
+
 -- no amount grows when one is taken away
 pub set-below : (s : List ℕ) (p i : ℕ) → getD (set s p 0) i 0 ≤ getD s i 0
 set-below [] p i = omega arith

@@ -1,5 +1,5 @@
 -- Laws of the limits on amounts: one for each step of the search for an amount that is too large, and what a search
--- that finds none shows. Assumes nothing.
+-- that finds none shows; and the whole test, by what it looks at. Assumes nothing.
 use Prim.Native.Nat.{ℕ, zero, suc, _+_, _≤_, _<_}
 use mathlib.Core.Path.{_≡_}
 use mathlib.Core.Bool.{true, false}
@@ -7,10 +7,12 @@ use mathlib.Core.List.{List, [], _∷_}
 use native.Mathlib.Omega.{arith}
 use lib.Dec.{ltb}
 use lib.ListN.{length, getD, drop}
-use borrow.Author.Tests.{lt-ltb, le-ltb, ltb-false}
+use borrow.Author.Tests.{lt-ltb, le-ltb, ltb-false, le-leb, lt-leb}
 use Rattle.base.proofs.Lists.{drop-next, drop-end}
 use Rattle.base.proofs.Tests.{or-fst, or-snd}
-use Rattle.pivotal.specs.Test.{tooLarge, mostAmount}
+use Rattle.pivotal.specs.Test.{left, pivotal, verdictOf, mostAmounts, mostAmount, tooLarge, refused, tested}
+use Rattle.pivotal.specs.declared.Verdict.{Verdict}
+use Rattle.pivotal.specs.declared.Answer.the-variants.{Tested, Refused}
 
 module _ (s : List ℕ) (i : ℕ) where
   pub large-here : i < length s → mostAmount < getD s i 0 → tooLarge (drop i s) ≡ true
@@ -31,3 +33,24 @@ unfolding tooLarge
 none-large [] e i = omega arith
 none-large (a ∷ s) e zero = ltb-false mostAmount a (or-fst (ltb mostAmount a) (tooLarge s) e)
 none-large (a ∷ s) e (suc i) = none-large s (or-snd (ltb mostAmount a) (tooLarge s) e) i
+
+-- the test by what it looks at, in the order of the refusals
+module _ (s : List ℕ) (p need : ℕ) where
+  pub too-many : mostAmounts < length s → Refused ≡ tested s p need
+  unfolding tested refused
+  too-many h = simp (lt-ltb mostAmounts (length s) h)
+
+  module _ (few : length s ≤ mostAmounts) where
+    pub one-too-large : tooLarge s ≡ true → Refused ≡ tested s p need
+    unfolding tested refused
+    one-too-large e = simp (le-ltb mostAmounts (length s) few, e)
+
+    module _ (small : tooLarge s ≡ false) where
+      pub nowhere : length s ≤ p → Refused ≡ tested s p need
+      unfolding tested refused
+      nowhere h = simp (le-ltb mostAmounts (length s) few, small, le-leb (length s) p h)
+
+      pub somewhere :
+          (l : ℕ) (v : Verdict) → p < length s → l ≡ left s p → v ≡ verdictOf (pivotal (left s p) need) → Tested l v ≡ tested s p need
+      unfolding tested refused
+      somewhere l v h e f = simp (le-ltb mostAmounts (length s) few, small, lt-leb (length s) p h, e, f)

@@ -46,7 +46,7 @@ sub-result : tie.Need-sub-result Inv-loop μ-loop
 sub-result c = omega (arith, passed-within _ _ _ _ (omega arith) (c .before .before .before .loop .inv .1))
 
 returns : tie.Need-returns Inv-loop μ-loop
-returns c = passed-left _ _ _ _ (omega arith) (c .before .before .before .loop .inv .1)
+returns c = omega (arith, passed-left _ _ _ _ (omega arith) (c .before .before .before .loop .inv .1))
 
 pub left-spec : {M : Type 1} → statement M
 left-spec =

@@ -28,7 +28,7 @@ returns : tie.Need-returns Inv-loop μ-loop
 returns c =
     let s = c .before .before .before .before .args .amounts .now in
     let loop = c .before .before .before .loop in
-    sym (loop .inv .1 ∙ large-here s (loop .i) (omega arith) (c .if1 .taken))
+    sym (loop .inv .1 ∙ large-here s (loop .i) (omega arith) (omega arith))
 
 add-i : tie.Need-add-i Inv-loop μ-loop
 add-i c = omega arith
@@ -40,7 +40,7 @@ loop-again : tie.Need-loop-again Inv-loop μ-loop
 loop-again c =
     let s = c .before .before .before .before .args .amounts .now in
     let loop = c .before .before .before .loop in
-    (omega arith, loop .inv .1 ∙ large-later s (loop .i) (omega arith) (c .if1 .left))
+    (omega arith, loop .inv .1 ∙ large-later s (loop .i) (omega arith) (omega arith))
 
 returns-2 : tie.Need-returns-2 Inv-loop μ-loop
 returns-2 c =

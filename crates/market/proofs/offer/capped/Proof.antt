@@ -16,7 +16,7 @@ least-requires-2 c κs = search needs
 
 returns : tie.Need-returns
 unfolding capped
-returns c = (rw (c .least2 .ensures, c .before .least .ensures), omega (arith, c .least2 .ensures))
+returns c = (omega (arith, c .least2 .ensures, c .before .least .ensures), omega (arith, c .least2 .ensures))
 
 pub capped-spec : {M : Type 1} → statement M
 capped-spec = tie.close (tie.spec least-requires add-least least-requires-2 returns)

@@ -1,6 +1,5 @@
 -- A party written behind those that are known, unless it is among them. Assumes nothing.
 use mathlib.Core.Path.{sym, _∙_}
-use native.Mathlib.Omega.{arith}
 use Rattle.market.proofs.ListingLaws.{met-old, met-inside, met-new}
 use borrow.Author.Needs.{needs}
 use Rattle.market.proofs.parties.meet.Statement.{statement}

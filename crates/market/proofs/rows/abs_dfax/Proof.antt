@@ -21,10 +21,10 @@ sub-result : tie.Need-sub-result
 sub-result c = search needs
 
 returns : tie.Need-returns
-returns c = dfax-below (c .before .before .args .cells .now) (c .before .before .args .row) (omega arith)
+returns c = omega (arith, dfax-below (c .before .before .args .cells .now) (c .before .before .args .row) (omega arith))
 
 returns-2 : tie.Need-returns-2
-returns-2 c = dfax-above (c .before .before .args .cells .now) (c .before .before .args .row) (omega arith)
+returns-2 c = omega (arith, dfax-above (c .before .before .args .cells .now) (c .before .before .args .row) (omega arith))
 
 pub abs-dfax-spec : {M : Type 1} → statement M
 abs-dfax-spec =

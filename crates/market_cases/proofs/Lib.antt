@@ -1,0 +1,2 @@
+pub mod PartyCount
+pub mod ReadCells

@@ -1,0 +1,68 @@
+-- The cells of a supply file that was read are rows within the table's ranges. Assumes nothing.
+use Prim.Native.Nat.{ℕ, _≤_}
+use mathlib.Core.Path.{_≡_, ap}
+use mathlib.Core.List.{List, map, List·Memᴰ}
+use mathlib.Core.Option.{none}
+use native.Mathlib.Omega.{arith}
+use lib.ListN.{length, drop}
+use Rattle.base.specs.Search.{All, all-none, all-more}
+use Rattle.base.proofs.Members.{for-cons}
+use Rattle.tables.specs.Laying.{room, FileRead}
+use Rattle.tables.specs.Ranges.{PermittedCells}
+use Rattle.tables.specs.Reading.{rows, refusal, laid}
+use Rattle.tables.specs.Rows.{SupplyRow, supplyRow, supplyRows}
+use Rattle.tables.specs.Table.{
+  columnAt,
+  allColumns,
+  constraintColumns,
+  supplyColumns,
+  schedulesColumns,
+  width,
+}
+use Rattle.tables.specs.Values.{cells as cellsOf}
+use Rattle.tables.specs.declared.files.File.the-variants.{Supply}
+use Rattle.tables.specs.declared.files.Reading.{Reading}
+use Rattle.tables.specs.declared.files.Reading.the-variants.{Rows}
+use Rattle.tables.proofs.Accepted.{accepted}
+use Rattle.tables.proofs.Permitted.{supply-permitted}
+use Rattle.filing.proofs.FilingLaws.{was-read}
+use Rattle.market.specs.Ranges.{Permitted, SupplyCells, mostRelief}
+
+-- a relief that the table permits
+pub relief-permitted : (relief : ℕ) → relief ≤ 1000000 → relief ≤ mostRelief
+unfolding columnAt allColumns constraintColumns supplyColumns schedulesColumns
+relief-permitted relief h = h
+
+pub room-enough : (n : ℕ) → 1280 ≤ n → room Supply ≤ n
+unfolding room width supplyColumns
+room-enough n h = omega arith
+
+permitted : {xs : List ℕ} → PermittedCells supplyColumns xs → Permitted (supplyRow xs)
+unfolding columnAt allColumns constraintColumns supplyColumns schedulesColumns
+permitted p =
+    let q = supply-permitted p in
+    record { mw = q .mw; cost = q .cost; dfax = q .dfax }
+
+all-permitted :
+    {rs : List (List ℕ)} → All (PermittedCells supplyColumns) rs → (r : SupplyRow) → List·Memᴰ r (map supplyRow rs) → Permitted r
+all-permitted all-none r m = elim m [ ]
+all-permitted (all-more p ps) r m = for-cons Permitted (permitted p) (all-permitted ps) r m
+
+module _ (s old new : List ℕ) (r : Reading) (n : ℕ) (w : FileRead Supply s old new r) (e : r ≡ Rows n) where
+  taken : refusal Supply s ≡ none
+  taken = was-read Supply s (w .answers) e .0
+
+  count : n ≡ length (rows s)
+  count = was-read Supply s (w .answers) e .1
+
+  rows-read : supplyRows n new ≡ map supplyRow (map (cellsOf supplyColumns) (rows s))
+  unfolding supplyRows width supplyColumns
+  rows-read = rw (count, w .lays) (ap (map supplyRow) (accepted Supply s taken .viewed (drop (length (laid Supply s)) old)))
+
+  pub read-cells : 1280 ≤ length new → SupplyCells n new
+  read-cells h =
+      record {
+        inside = omega (arith, count, accepted Supply s taken .most);
+        few = omega (arith, count, accepted Supply s taken .most);
+        permitted = λ q m. all-permitted (accepted Supply s taken .permitted) q (rw rows-read at m);
+      }

@@ -1,0 +1,4 @@
+pub mod LayoutLaws
+pub mod RisingSame
+pub mod RowsToBytes
+pub mod UnitRows

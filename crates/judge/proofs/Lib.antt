@@ -1,0 +1,9 @@
+pub mod ExposedRight
+pub mod OneMarket
+pub mod OwnRows
+pub mod RowLaws
+pub mod ScheduleRight
+pub mod SearchLaws
+pub mod Sound
+pub mod TestRight
+pub mod UnitRows

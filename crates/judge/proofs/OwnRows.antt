@@ -50,7 +50,8 @@ module _ (h : ℕ) (rows : List ScheduleRow) where
 module _ (rows : List ScheduleRow) (agrees : schedulesAtOdds rows ≡ none) where
   -- two rows of one schedule for one hour are the same row
   pub one-row :
-      (a b : ScheduleRow) → Among a rows → Among b rows → a .unit ≡ b .unit → a .schedule ≡ b .schedule → a .hour ≡ b .hour → a ≡ b
+      (a b : ScheduleRow) → Among a rows → Among b rows → a .unit ≡ b .unit → a .schedule ≡ b .schedule →
+      a .hour ≡ b .hour → a ≡ b
   unfolding schedulesAtOdds
   one-row a b m n u s h = go (agree scheduleOdds 1 agrees m n)
     where
@@ -71,29 +72,36 @@ module _ (rows : List ScheduleRow) (agrees : schedulesAtOdds rows ≡ none) wher
       }
 
 -- a unit has a schedule, and each of its schedules a row for the study hour
-module _ (h : ℕ) (us : List ℕ) (rows : List ScheduleRow) (hour : h ≤ lastHour) (permitted : All PermittedSchedule rows) (scheduled : unscheduled us rows ≡ none) (whole : lacking h us rows ≡ none) (u : ℕ) (m : Among u us) where
-  has-row : (r : ScheduleRow) × Among r rows × (r .unit ≡ u)
+module _ (h : ℕ) (us : List ℕ) (rows : List ScheduleRow) (u : ℕ) (m : Among u us) where
+  has-row : unscheduled us rows ≡ none → (r : ScheduleRow) × Among r rows × (r .unit ≡ u)
   unfolding unscheduled
-  has-row =
-      let some-row = not-false _ (none-found (λ (u : ℕ). not (any (λ (r : ScheduleRow). eqb (r .unit) u) rows)) scheduled m) in
+  has-row f =
+      let some-row = not-false _ (none-found (λ (u : ℕ). not (any (λ (r : ScheduleRow). eqb (r .unit) u) rows)) f m) in
       let (r, n, t) = any-mem (λ (r : ScheduleRow). eqb (r .unit) u) rows some-row in
       (r, n, eqb-true (r .unit) u t)
 
-  has-run : (r : ScheduleRow) → Among r (own u rows) → hasRun h (own u rows) r ≡ true
-  unfolding lacking
-  has-run r n =
-      let none-lacks = none-found (λ (u : ℕ). any (λ (r : ScheduleRow). not (hasRun h (own u rows) r)) (own u rows)) whole m in
-      not-false _ (none-mem (λ (r : ScheduleRow). not (hasRun h (own u rows) r)) (own u rows) r none-lacks n)
+  abbrev lacksRun : ℕ → ScheduleRow → Bool
+  lacksRun u r = not (hasRun h (own u rows) r)
 
-  first-hour : (r : ScheduleRow) → 1 ≤ r .minrun → hasRun h (own u rows) r ≡ true → (e : ScheduleRow) × Among e (schedules h (own u rows))
+  has-run : lacking h us rows ≡ none → (r : ScheduleRow) → Among r (own u rows) → hasRun h (own u rows) r ≡ true
+  unfolding lacking
+  has-run f r n =
+      let none-lacks = none-found (λ (u : ℕ). any (lacksRun u) (own u rows)) f m in
+      not-false _ (none-mem (lacksRun u) (own u rows) r none-lacks n)
+
+  first-hour :
+      (r : ScheduleRow) → h ≤ lastHour → 1 ≤ r .minrun → hasRun h (own u rows) r ≡ true →
+      (e : ScheduleRow) × Among e (schedules h (own u rows))
   unfolding hasRun hasHours runEnd
-  first-hour r some-minrun e =
+  first-hour r hour some-minrun e =
       let hours : suc (runEnd h (r .minrun)) - h ≡ suc (runEnd h (r .minrun) - h) = omega arith in
-      let (x, n, t) = any-mem (λ (e : ScheduleRow). sameSchedule r e && eqb (e .hour) h) (own u rows) (and-fst _ _ (rw hours at e)) in
+      let at-h = and-fst _ _ (rw hours at e) in
+      let (x, n, t) = any-mem (λ (e : ScheduleRow). sameSchedule r e && eqb (e .hour) h) (own u rows) at-h in
       (x, row-scheduled h (own u rows) {r = x} n (eqb-true (x .hour) h (and-snd (sameSchedule r x) (eqb (x .hour) h) t)))
 
-  pub has-schedule : (e : ScheduleRow) × Among e (schedules h (own u rows))
-  has-schedule =
-      let (r, n, of-u) = has-row in
-      let mine = row-own u rows n of-u in
-      first-hour r (all-mem permitted n .some-minrun) (has-run r mine)
+  pub has-schedule :
+      h ≤ lastHour → All PermittedSchedule rows → unscheduled us rows ≡ none → lacking h us rows ≡ none →
+      (e : ScheduleRow) × Among e (schedules h (own u rows))
+  has-schedule hour permitted scheduled whole =
+      let (r, n, of-u) = has-row scheduled in
+      first-hour r hour (all-mem permitted n .some-minrun) (has-run whole r (row-own u rows n of-u))

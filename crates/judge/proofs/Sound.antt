@@ -19,7 +19,9 @@ use Rattle.judge.specs.Day.{RunningUnit, DayView, dayFormed, unless}
 use Rattle.judge.specs.Decision.{need, costless}
 use Rattle.judge.specs.Study.{decisionRefusal}
 
-pub record Sound (c : ConstraintRow) (supply : List SupplyRow) (scheduled : List ScheduleRow) (running : List RunningUnit) : Type 0 where
+pub record Sound
+    (c : ConstraintRow) (supply : List SupplyRow) (scheduled : List ScheduleRow) (running : List RunningUnit)
+    : Type 0 where
   pub constraint : PermittedConstraint c
   pub schedules : All PermittedSchedule scheduled
   pub supply-agrees : supplyAtOdds supply ≡ none
@@ -28,10 +30,11 @@ pub record Sound (c : ConstraintRow) (supply : List SupplyRow) (scheduled : List
   pub whole : lacking (c .hour) (units supply) scheduled ≡ none
   pub each-cost : costless (c .hour) supply scheduled running ≡ none
 
-module _ {c : ConstraintRow} {supply : List SupplyRow} {scheduled : List ScheduleRow} {running : List RunningUnit} (s : Sound c supply scheduled running) where
-  pub some-need : 0 < need c supply
-  unfolding needOf
-  some-need = omega (arith, s .constraint .some-relief)
+pub some-need :
+    {c : ConstraintRow} {supply : List SupplyRow} {scheduled : List ScheduleRow} {running : List RunningUnit} →
+    Sound c supply scheduled running → 0 < need c supply
+unfolding needOf
+some-need s = omega (arith, s .constraint .some-relief)
 
 pub sound :
     (d : DayView) (c s h : List ℕ) → decisionRefusal d c s h ≡ none →
@@ -43,6 +46,7 @@ sound d c s h e =
     let o20 = first-of-none _ _ (b .1) in
     let o21 = first-of-none _ _ (o20 .1) in
     let k = kept c s h (b .0) in
+    let lacking-cost = costless (constraintOf c .hour) (supplyOf s) (schedulesOf h) (d .running) in
     record {
       constraint = k .constraint-permitted;
       schedules = k .schedules-permitted;
@@ -50,5 +54,5 @@ sound d c s h e =
       schedules-agree = k .schedules-agree;
       each-scheduled = k .scheduled;
       whole = k .whole;
-      each-cost = option-map-none (refused 21 Schedules) (costless (constraintOf c .hour) (supplyOf s) (schedulesOf h) (d .running)) (o21 .0);
+      each-cost = option-map-none (refused 21 Schedules) lacking-cost (o21 .0);
     }

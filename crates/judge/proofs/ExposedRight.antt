@@ -74,8 +74,8 @@ module _ (c : ConstraintRow) (rows : List SupplyRow) (positive : 0 < c .cutoff) 
     unfolding hasRelevant
     relevant-has x =
         let d = cleared-clears c rows positive some-need (failed-tested c rows k f) in
-        let one-market = relevant-same (c .cutoff) (need c rows) rows positive (x .cleared) (cleared c rows) (x .clears) d (x .row) in
-        passes-row c rows u (relevant (c .cutoff) (cleared c rows)) (x .row) (x .of-the-unit) (sym one-market ∙ x .is-relevant)
+        let one-market = relevant-same (c .cutoff) (need c rows) rows positive (x .cleared) (cleared c rows) (x .clears) d in
+        passes-row c rows u (relevant (c .cutoff) (cleared c rows)) (x .row) (x .of-the-unit) (sym (one-market (x .row)) ∙ x .is-relevant)
 
   says :
       (v : Verdict) (k : ℕ) → verdictOf c rows k ≡ v → exposed v (hasRelevant c rows u) (hasEligible c rows u) ≡ true →

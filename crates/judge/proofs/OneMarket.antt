@@ -30,11 +30,11 @@ module _ (cutoff need : ℕ) (rows : List SupplyRow) (positive : 0 < cutoff) whe
   unfolding relevant costBeside atMost
   also-relevant q s c d r e =
       let within : 2 * (offer r * absDfax q) ≤ 3 * (offer q * absDfax r) = leb-true _ _ (and-snd (eligible cutoff r) _ e) in
-      let no-dearer : offer q * absDfax s ≤ offer s * absDfax q = leb-true _ _ (clears-once cutoff need rows positive s q d c) in
-      simp (
-        and-fst (eligible cutoff r) _ e,
-        le-leb _ _ (carried (offer r) (offer q) (offer s) (absDfax q) (absDfax s) (absDfax r) (omega (arith, c .is-eligible)) no-dearer within),
-      )
+      let once = clears-once cutoff need rows positive s q d c in
+      let no-dearer : offer q * absDfax s ≤ offer s * absDfax q = leb-true _ _ once in
+      let some-dfax : 0 < absDfax q = omega (arith, c .is-eligible) in
+      let also = carried (offer r) (offer q) (offer s) (absDfax q) (absDfax s) (absDfax r) some-dfax no-dearer within in
+      simp (and-fst (eligible cutoff r) _ e, le-leb _ _ also)
 
   module _ (q s : SupplyRow) (c : Clears cutoff need rows q) (d : Clears cutoff need rows s) where
     pub relevant-same : (r : SupplyRow) → relevant cutoff q r ≡ relevant cutoff s r

@@ -37,7 +37,9 @@ module _ {A : Type 0} (p : A → Bool) where
   mem-any (later {x = y} m) t = simp (mem-any m t) (or-true (p y))
 
   -- the first that passes, where some does
-  pub found : (d : A) (xs : List A) → any p xs ≡ true → Among (Option·getD (find p xs) d) xs × (p (Option·getD (find p xs) d) ≡ true)
+  pub found :
+      (d : A) (xs : List A) → any p xs ≡ true →
+      Among (Option·getD (find p xs) d) xs × (p (Option·getD (find p xs) d) ≡ true)
   unfolding any find
   found d [] e = false-true e
   found d (x ∷ xs) e = go (p x) refl e (found d xs)

@@ -26,7 +26,9 @@ use Rattle.judge.specs.Right.{Clearing, Removal, RightTest}
 use Rattle.judge.proofs.OneMarket.{remaining-same}
 
 -- the place of a number that is among some
-pub place-holds : (k : ℕ) (ks : List ℕ) → (i : ℕ) × (i < length ks) × (getD ks i 0 ≡ k) → (placeOf k ks < length ks) × (getD ks (placeOf k ks) 0 ≡ k)
+place-holds :
+    (k : ℕ) (ks : List ℕ) → (i : ℕ) × (i < length ks) × (getD ks i 0 ≡ k) →
+    (placeOf k ks < length ks) × (getD ks (placeOf k ks) 0 ≡ k)
 unfolding placeOf
 place-holds k ks (i, h, e) = go (finds 0 (λ (j : ℕ). eqb j k) 0 ks)
   where
@@ -79,7 +81,8 @@ module _ (c : ConstraintRow) (rows : List SupplyRow) (positive : 0 < c .cutoff) 
   pub cleared-clears : need c rows ≤ eligibleSupply (c .cutoff) rows → Clearing c rows (cleared c rows)
   unfolding cleared short
   cleared-clears h =
-      clearing-clears (c .cutoff) (need c rows) rows positive some-need (le-ltb (eligibleSupply (c .cutoff) rows) (need c rows) h) .1
+      let not-short = le-ltb (eligibleSupply (c .cutoff) rows) (need c rows) h in
+      clearing-clears (c .cutoff) (need c rows) rows positive some-need not-short .1
 
   module _ (k : ℕ) (p : PartyOf rows k) where
     -- what the test leaves is the least that a removal leaves, by whichever clearing row
@@ -115,7 +118,9 @@ module _ (c : ConstraintRow) (rows : List SupplyRow) (positive : 0 < c .cutoff) 
           least = λ n q d. least-by h q d;
         }
       where
-        below : (q : SupplyRow) → Clearing c rows q → (taken : List ℕ) × Removal c rows k taken × (remaining (c .cutoff) q taken rows < need c rows)
+        below :
+            (q : SupplyRow) → Clearing c rows q →
+            (taken : List ℕ) × Removal c rows k taken × (remaining (c .cutoff) q taken rows < need c rows)
         below q d =
             let (taken, r, e) = reached-by h q d in
             (taken, r, omega arith)

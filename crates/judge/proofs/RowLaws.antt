@@ -3,6 +3,7 @@ use Prim.Native.Nat.{ℕ}
 use mathlib.Core.Path.{_≡_, refl}
 use mathlib.Core.List.{List, List·Memᴰ as Among}
 use mathlib.Core.Option.{none}
+use native.Mathlib.Omega.{arith}
 use Rattle.tables.specs.Rows.{ConstraintRow, SupplyRow, ScheduleRow}
 use Rattle.filing.specs.Filing.{constraintOf, supplyOf, schedulesOf}
 use Rattle.filing.specs.Supply.{units}
@@ -30,7 +31,7 @@ module _
     unfolding decidedRow party
     right u m =
         record {
-          supplier = unit-supplier c supply (s .supply-agrees) u m;
+          supplier = λ w i. omega (arith, unit-supplier c supply (s .supply-agrees) u m w i);
           tested = λ w i.
               rw (← unit-supplier c supply (s .supply-agrees) u m w i)
               (test-right c supply (s .constraint .some-cutoff) (some-need s) (party (unitRow supply u)) (its-party u m));
@@ -49,7 +50,7 @@ module _
         let (verdict, left) = test-only c supply (s .constraint .some-cutoff) (some-need s) (party w) (its-party u m) tested in
         let chosen : chosenOr (choiceOf c supply scheduled running u) ≡ shownBy c supply scheduled running s r (t .schedule) =
         schedule-only c supply scheduled running s r verdict (t .schedule) in
-        let supplier : r .supplier ≡ w .supplier = t .supplier w i in
+        let supplier : r .supplier ≡ w .supplier = omega (arith, t .supplier w i) in
         rw (chosen, ← verdict, ← left, ← supplier, ← (t .schedule .kind-shown))
 
 module _ (d : DayView) (c s h : List ℕ) (e : decisionRefusal d c s h ≡ none) where

@@ -101,37 +101,36 @@ module _ (c : ConstraintRow) (rows : List SupplyRow) (positive : 0 < c .cutoff) 
     right : {v : Verdict} {l : ℕ} → Decides c rows k v l → RightTest c rows k (verdictLetter v) l
     right (short-of h) =
         record {
-          shows-U = (λ _. h, λ _. refl);
+          shows-U = (λ _. omega arith, λ _. refl);
           shows-F = λ n. absurd (n refl);
           else-P = λ n. absurd (n refl);
-          nothing-left = λ _. refl;
+          nothing-left = λ _. omega arith;
           reached = λ n. absurd (n refl);
           least = λ n. absurd (n refl);
         }
     right (failed h l) =
         record {
           shows-U = (λ e. absurd (omega arith), λ e. absurd (omega arith));
-          shows-F = λ n q d. (λ _. below q d, λ _. refl);
+          shows-F = λ n q d.
+              let (taken, r, e) = reached-by h q d in
+              (λ _. (taken, r, omega arith), λ _. refl);
           else-P = λ n m. absurd (m refl);
           nothing-left = λ e. absurd (omega arith);
-          reached = λ n q d. reached-by h q d;
-          least = λ n q d. least-by h q d;
+          reached = λ n q d.
+              let (taken, r, e) = reached-by h q d in
+              (taken, r, omega arith);
+          least = λ n q d taken r. omega (arith, least-by h q d taken r);
         }
-      where
-        below :
-            (q : SupplyRow) → Clearing c rows q →
-            (taken : List ℕ) × Removal c rows k taken × (remaining (c .cutoff) q taken rows < need c rows)
-        below q d =
-            let (taken, r, e) = reached-by h q d in
-            (taken, r, omega arith)
     right (passed h l) =
         record {
           shows-U = (λ e. absurd (omega arith), λ e. absurd (omega arith));
           shows-F = λ n q d. (λ e. absurd (omega arith), λ x. absurd (omega (arith, x .2, least-by h q d (x .0) (x .1))));
           else-P = λ n m. refl;
           nothing-left = λ e. absurd (omega arith);
-          reached = λ n q d. reached-by h q d;
-          least = λ n q d. least-by h q d;
+          reached = λ n q d.
+              let (taken, r, e) = reached-by h q d in
+              (taken, r, omega arith);
+          least = λ n q d taken r. omega (arith, least-by h q d taken r);
         }
 
     -- where the test can be performed, the amount that is right is what it leaves
@@ -147,8 +146,8 @@ module _ (c : ConstraintRow) (rows : List SupplyRow) (positive : 0 < c .cutoff) 
 
     only : {w : Verdict} {m : ℕ} → Decides c rows k w m → {v l : ℕ} → RightTest c rows k v l → (v ≡ verdictLetter w) × (l ≡ m)
     only (short-of h) t =
-        let shown = t .shows-U .1 h in
-        (shown, t .nothing-left shown)
+        let shown = t .shows-U .1 (omega arith) in
+        (shown, omega (arith, t .nothing-left shown))
     only (failed h b) t =
         let (taken, r, e) = left-reached c rows k p in
         (t .shows-F (not-U h t) (cleared c rows) (cleared-clears h) .1 (taken, r, omega arith), only-left h t)

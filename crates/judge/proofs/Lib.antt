@@ -6,4 +6,4 @@ pub mod ScheduleRight
 pub mod SearchLaws
 pub mod Sound
 pub mod TestRight
-pub mod UnitRows
+pub mod UnitSupplier

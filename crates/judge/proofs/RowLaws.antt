@@ -17,7 +17,7 @@ use Rattle.judge.specs.Study.{decisionRefusal}
 use Rattle.judge.proofs.ScheduleRight.{schedule-right, shownBy, schedule-only}
 use Rattle.judge.proofs.Sound.{Sound, sound, some-need}
 use Rattle.judge.proofs.TestRight.{test-right, test-only}
-use Rattle.judge.proofs.UnitRows.{unit-row, unit-supplier}
+use Rattle.judge.proofs.UnitSupplier.{unit-row, unit-supplier}
 
 module _
     (c : ConstraintRow) (supply : List SupplyRow) (scheduled : List ScheduleRow) (running : List RunningUnit)

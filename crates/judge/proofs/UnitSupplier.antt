@@ -1,4 +1,4 @@
--- The supply rows of a unit: each unit of the file has one, and they all have one supplier. Assumes nothing.
+-- The supplier of a unit: each unit of the file has a row, and all its rows have one supplier. Assumes nothing.
 use Prim.Native.Nat.{ℕ}
 use mathlib.Core.Path.{_≡_, sym, _∙_}
 use mathlib.Core.Bool.{true, false, _&&_}

@@ -11,6 +11,7 @@ use Rattle.tables.specs.Reading.{refused}
 use Rattle.tables.specs.Rows.{ConstraintRow, SupplyRow, ScheduleRow}
 use Rattle.tables.specs.declared.files.File.the-variants.{Schedules}
 use Rattle.filing.specs.Filing.{constraintOf, supplyOf, schedulesOf, filingRefusal}
+use Rattle.filing.specs.Kept.{Kept}
 use Rattle.filing.specs.Schedules.{schedulesAtOdds, unscheduled, lacking}
 use Rattle.filing.specs.Supply.{units, supplyAtOdds}
 use Rattle.filing.proofs.KeptLaws.{kept}
@@ -36,23 +37,32 @@ pub some-need :
 unfolding needOf
 some-need s = omega (arith, s .constraint .some-relief)
 
-pub sound :
-    (d : DayView) (c s h : List ℕ) → decisionRefusal d c s h ≡ none →
-    Sound (constraintOf c) (supplyOf s) (schedulesOf h) (d .running)
-unfolding decisionRefusal
-sound d c s h e =
-    let a = first-of-none (unless (dayFormed d) 24) _ e in
-    let b = first-of-none (filingRefusal c s h) _ (a .1) in
-    let o20 = first-of-none _ _ (b .1) in
-    let o21 = first-of-none _ _ (o20 .1) in
-    let k = kept c s h (b .0) in
-    let lacking-cost = costless (constraintOf c .hour) (supplyOf s) (schedulesOf h) (d .running) in
-    record {
-      constraint = k .constraint-permitted;
-      schedules = k .schedules-permitted;
-      supply-agrees = k .supply-agrees;
-      schedules-agree = k .schedules-agree;
-      each-scheduled = k .scheduled;
-      whole = k .whole;
-      each-cost = option-map-none (refused 21 Schedules) lacking-cost (o21 .0);
-    }
+module _ (d : DayView) (c s h : List ℕ) (e : decisionRefusal d c s h ≡ none) where
+  -- the files are such as filing accepts
+  pub files-kept : Kept c s h
+  unfolding decisionRefusal
+  files-kept =
+      let formed = first-of-none (unless (dayFormed d) 24) _ e in
+      kept c s h (first-of-none (filingRefusal c s h) _ (formed .1) .0)
+
+  -- 21 is kept
+  cost-kept : costless (constraintOf c .hour) (supplyOf s) (schedulesOf h) (d .running) ≡ none
+  unfolding decisionRefusal
+  cost-kept =
+      let formed = first-of-none (unless (dayFormed d) 24) _ e in
+      let filed = first-of-none (filingRefusal c s h) _ (formed .1) in
+      let later = first-of-none _ _ (filed .1) in
+      option-map-none (refused 21 Schedules) (costless (constraintOf c .hour) (supplyOf s) (schedulesOf h) (d .running))
+      (first-of-none _ _ (later .1) .0)
+
+  pub sound : Sound (constraintOf c) (supplyOf s) (schedulesOf h) (d .running)
+  sound =
+      record {
+        constraint = files-kept .constraint-permitted;
+        schedules = files-kept .schedules-permitted;
+        supply-agrees = files-kept .supply-agrees;
+        schedules-agree = files-kept .schedules-agree;
+        each-scheduled = files-kept .scheduled;
+        whole = files-kept .whole;
+        each-cost = cost-kept;
+      }

@@ -10,10 +10,11 @@ use Rattle.tables.specs.Rows.{ConstraintRow, SupplyRow, ScheduleRow}
 use Rattle.filing.specs.Supply.{units}
 use Rattle.judge.specs.Answer.{AnswerRow}
 use Rattle.judge.specs.Day.{RunningUnit}
-use Rattle.judge.specs.Decision.{decidedRow, decided}
+use Rattle.judge.specs.Decision.{unitRow, decidedRow, decided}
 use Rattle.judge.specs.Right.{RightRow, RowPerUnit, RowOf}
 use Rattle.judge.proofs.RisingSame.{rising-same}
-use Rattle.judge.proofs.UnitRows.{unit-has-row, row-has-unit}
+use Rattle.judge.proofs.UnitRows.{row-has-unit}
+use Rattle.judge.proofs.UnitSupplier.{unit-row}
 
 -- what each member has, all have
 all-of : {A : Type 0} {P : A → Type 0} (xs : List A) → ((x : A) → Among x xs → P x) → All P xs
@@ -56,9 +57,8 @@ module _ (c : ConstraintRow) (supply : List SupplyRow) (scheduled : List Schedul
         a-unit : (r : AnswerRow) → Among r (map row (units supply)) → (w : SupplyRow) × RowOf c supply (r .unit) w
         a-unit r m =
             let made = of-map row (units supply) m in
-            let found = unit-has-row supply (made .0) (made .1) in
             let same : made .0 ≡ r .unit = sym (row-unit (made .0)) ∙ ap shownUnit (made .2) in
-            (found .0, record { a-row = found .1; its-unit = found .2 ∙ same })
+            (unitRow supply (made .0), subst (λ (u : ℕ). RowOf c supply u (unitRow supply (made .0))) same (unit-row c supply (made .0) (made .1)))
 
     -- rows of each unit, by rising number, are rows of the units of the supply file
     units-shown : (rs : List AnswerRow) → RowPerUnit c supply rs → map shownUnit rs ≡ units supply
@@ -72,9 +72,9 @@ module _ (c : ConstraintRow) (supply : List SupplyRow) (scheduled : List Schedul
 
         to-rows : (u : ℕ) → Among u (units supply) → Among u (map shownUnit rs)
         to-rows u m =
-            let found = unit-has-row supply u m in
-            let shown = per-unit .every-unit (found .0) (found .1) in
-            rw (sym (found .2) ∙ sym (shown .2)) (among-map shownUnit (shown .1))
+            let found = unit-row c supply u m in
+            let shown = per-unit .every-unit (unitRow supply u) (found .a-row) in
+            rw (sym (found .its-unit) ∙ sym (shown .2)) (among-map shownUnit (shown .1))
 
     pub rows-right :
         ((u : ℕ) → Among u (units supply) → IsRight (row u)) →

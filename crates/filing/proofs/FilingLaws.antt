@@ -61,7 +61,7 @@ module _ (f : File) (s : List ℕ) where
       go none e = let z : _≡_ {A = ℕ} 0 1 = cc (reading-none e) in absurd (omega arith)
       go (some y) e = cc (reading-some y e)
 
-rows-count : (f : File) (s : List ℕ) → length (rowCells f s) ≡ length (rows s)
+pub rows-count : (f : File) (s : List ℕ) → length (rowCells f s) ≡ length (rows s)
 unfolding rowCells
 rows-count f s = length-map (rows s) (cells (table f .columns))
 

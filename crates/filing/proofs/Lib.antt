@@ -1,6 +1,7 @@
 pub mod CheckLaws
 pub mod FilingLaws
 pub mod GatherLaws
+pub mod KeptLaws
 pub mod NumberLaws
 pub mod OddsLaws
 pub mod RunLaws

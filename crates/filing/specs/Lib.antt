@@ -3,6 +3,7 @@ pub mod Checks
 pub mod Filed
 pub mod Filing
 pub mod Gathered
+pub mod Kept
 pub mod Numbers
 pub mod Ranges
 pub mod Runs

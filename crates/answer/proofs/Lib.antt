@@ -1,0 +1,4 @@
+pub mod LineLaws
+pub mod LongestLaws
+pub mod LoopLaws
+pub mod WriteLaws

@@ -1,0 +1,4 @@
+pub mod Lengths
+pub mod Longest
+pub mod Parts
+pub mod Rows

@@ -1,0 +1,11 @@
+// The answer file, from rows of cells to text in a lent buffer: how long it is, and the writing of
+// it. Rows are a lent run of cells, seven a row, with verdict and kind as their letters.
+mod cells;
+mod lengths;
+mod writing;
+
+pub use lengths::length;
+pub use writing::write;
+
+// The longest answer: the header, and 64 rows of which every field is as wide as its range permits.
+pub const LONGEST: usize = 2799;

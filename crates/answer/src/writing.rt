@@ -1,0 +1,137 @@
+// The text of an answer, written from the start of a lent buffer. Each next row, and each next part
+// of a row, is written into the rest of the buffer. Bytes past the answer stay.
+ghost use Prim.Native.Nat.{_+_, _*_, _≤_, _<_};
+ghost use lib.ListN.{length, getD};
+ghost use Rattle.base.specs.Search.{All};
+ghost use Rattle.base.specs.Writing.{Wrote};
+ghost use Rattle.judge.specs.Answer.{answerHeader, answerRows, answerText, line, lines};
+ghost use Rattle.answer.specs.Rows.{rowAt, rowCells, Lettered};
+ghost use Rattle.answer.specs.Parts.{numberField, letterField, lastField, idsPart, testPart, schedulePart};
+use crate::cells;
+
+const COMMA: u8 = b',';
+
+const CR: u8 = b'\r';
+
+const LF: u8 = b'\n';
+
+// Writes the answer's text, and answers its length.
+pub fn write(cells: &[u64], n: usize, out: &mut [u8]) -> usize
+    requires { ⌜ n * 7 ≤ length (now cells) ⌝ }
+    requires { ⌜ All Lettered (answerRows n (now cells)) ⌝ }
+    requires { ⌜ length (answerText (answerRows n (now cells))) ≤ length (now out) ⌝ }
+    ensures { λ r. ⌜ Wrote (answerText (answerRows n (now (cells .entry)))) r (now (out .entry)) (now (out .exit)) ⌝ }
+{
+    let mut at = write_header(out);
+    at += write_rows(cells, n, &mut out[at..]);
+    at
+}
+
+fn write_header(out: &mut [u8]) -> usize
+    requires { ⌜ length answerHeader ≤ length (now out) ⌝ }
+    ensures { λ r. ⌜ Wrote answerHeader r (now (out .entry)) (now (out .exit)) ⌝ }
+{
+    bytes::copy(b"unit,supplier,verdict,left,schedule,kind,cost\r\n", out)
+}
+
+fn write_rows(cells: &[u64], n: usize, out: &mut [u8]) -> usize
+    requires { ⌜ n * 7 ≤ length (now cells) ⌝ }
+    requires { ⌜ All Lettered (answerRows n (now cells)) ⌝ }
+    requires { ⌜ length (lines (answerRows n (now cells))) ≤ length (now out) ⌝ }
+    ensures { λ r. ⌜ Wrote (lines (answerRows n (now (cells .entry)))) r (now (out .entry)) (now (out .exit)) ⌝ }
+{
+    let mut at = 0;
+    let mut i = 0;
+    while i < n {
+        at += write_row(cells, i, &mut out[at..]);
+        i += 1;
+    }
+    at
+}
+
+// The record of the row at `i`.
+fn write_row(cells: &[u64], i: usize, out: &mut [u8]) -> usize
+    requires { ⌜ i * 7 + 7 ≤ length (now cells) ⌝ }
+    requires { ⌜ Lettered (rowAt (now cells) i) ⌝ }
+    requires { ⌜ length (line (rowAt (now cells) i)) ≤ length (now out) ⌝ }
+    ensures { λ r. ⌜ Wrote (line (rowAt (now (cells .entry)) i)) r (now (out .entry)) (now (out .exit)) ⌝ }
+{
+    let mut at = write_ids(cells, i, out);
+    at += write_test(cells, i, &mut out[at..]);
+    at += write_schedule(cells, i, &mut out[at..]);
+    at
+}
+
+// Unit and supplier.
+fn write_ids(cells: &[u64], i: usize, out: &mut [u8]) -> usize
+    requires { ⌜ i * 7 + 7 ≤ length (now cells) ⌝ }
+    requires { ⌜ length (idsPart (rowAt (now cells) i)) ≤ length (now out) ⌝ }
+    ensures { λ r. ⌜ Wrote (idsPart (rowAt (now (cells .entry)) i)) r (now (out .entry)) (now (out .exit)) ⌝ }
+{
+    let mut at = write_number(cells, i, cells::UNIT, out);
+    at += write_number(cells, i, cells::SUPPLIER, &mut out[at..]);
+    at
+}
+
+// Verdict and left.
+fn write_test(cells: &[u64], i: usize, out: &mut [u8]) -> usize
+    requires { ⌜ i * 7 + 7 ≤ length (now cells) ⌝ }
+    requires { ⌜ Lettered (rowAt (now cells) i) ⌝ }
+    requires { ⌜ length (testPart (rowAt (now cells) i)) ≤ length (now out) ⌝ }
+    ensures { λ r. ⌜ Wrote (testPart (rowAt (now (cells .entry)) i)) r (now (out .entry)) (now (out .exit)) ⌝ }
+{
+    let mut at = write_letter(cells, i, cells::VERDICT, out);
+    at += write_number(cells, i, cells::LEFT, &mut out[at..]);
+    at
+}
+
+// Schedule, kind and cost, and the record's end.
+fn write_schedule(cells: &[u64], i: usize, out: &mut [u8]) -> usize
+    requires { ⌜ i * 7 + 7 ≤ length (now cells) ⌝ }
+    requires { ⌜ Lettered (rowAt (now cells) i) ⌝ }
+    requires { ⌜ length (schedulePart (rowAt (now cells) i)) ≤ length (now out) ⌝ }
+    ensures { λ r. ⌜ Wrote (schedulePart (rowAt (now (cells .entry)) i)) r (now (out .entry)) (now (out .exit)) ⌝ }
+{
+    let mut at = write_number(cells, i, cells::SCHEDULE, out);
+    at += write_letter(cells, i, cells::KIND, &mut out[at..]);
+    at += write_last(cells, i, cells::COST, &mut out[at..]);
+    at
+}
+
+// The number in a cell, and the comma behind it.
+fn write_number(cells: &[u64], i: usize, column: usize, out: &mut [u8]) -> usize
+    requires { ⌜ i * 7 + 7 ≤ length (now cells) ⌝ }
+    requires { ⌜ column < 7 ⌝ }
+    requires { ⌜ length (numberField (getD (rowCells (now cells) i) column 0)) ≤ length (now out) ⌝ }
+    ensures { λ r. ⌜ Wrote (numberField (getD (rowCells (now (cells .entry)) i) column 0)) r (now (out .entry)) (now (out .exit)) ⌝ }
+{
+    let at = numeral::write(cells::cell(cells, i, column), out);
+    out[at] = COMMA;
+    at + 1
+}
+
+// The letter in a cell, and the comma behind it.
+fn write_letter(cells: &[u64], i: usize, column: usize, out: &mut [u8]) -> usize
+    requires { ⌜ i * 7 + 7 ≤ length (now cells) ⌝ }
+    requires { ⌜ column < 7 ⌝ }
+    requires { ⌜ getD (rowCells (now cells) i) column 0 < 256 ⌝ }
+    requires { ⌜ length (letterField (getD (rowCells (now cells) i) column 0)) ≤ length (now out) ⌝ }
+    ensures { λ r. ⌜ Wrote (letterField (getD (rowCells (now (cells .entry)) i) column 0)) r (now (out .entry)) (now (out .exit)) ⌝ }
+{
+    out[0] = cells::cell(cells, i, column) as u8;
+    out[1] = COMMA;
+    2
+}
+
+// The number in a record's last cell, and the CR LF behind it.
+fn write_last(cells: &[u64], i: usize, column: usize, out: &mut [u8]) -> usize
+    requires { ⌜ i * 7 + 7 ≤ length (now cells) ⌝ }
+    requires { ⌜ column < 7 ⌝ }
+    requires { ⌜ length (lastField (getD (rowCells (now cells) i) column 0)) ≤ length (now out) ⌝ }
+    ensures { λ r. ⌜ Wrote (lastField (getD (rowCells (now (cells .entry)) i) column 0)) r (now (out .entry)) (now (out .exit)) ⌝ }
+{
+    let at = numeral::write(cells::cell(cells, i, column), out);
+    out[at] = CR;
+    out[at + 1] = LF;
+    at + 2
+}

@@ -1,0 +1,137 @@
+-- That filing accepts only files of which all of `Kept` holds. Assumes nothing.
+use Prim.Native.Nat.{ℕ, suc, _≤_}
+use mathlib.Core.Path.{_≡_, refl}
+use mathlib.Core.Bool.{Bool, true, false, cond}
+use mathlib.Core.List.{List, [], _∷_, map}
+use mathlib.Core.Option.{Option, none, some}
+use native.Mathlib.Omega.{arith}
+use lib.ListN.{length, getD}
+use borrow.Author.Tests.{ltb-false}
+use lib.Dec.{ltb}
+use Rattle.base.specs.Rising.{inserted}
+use Rattle.base.specs.Search.{All, all-none, all-more}
+use Rattle.base.proofs.Searches.{first-of-none, option-map-none}
+use Rattle.base.proofs.Tests.{or-fst, or-snd}
+use Rattle.tables.specs.Ranges.{PermittedCells, PermittedConstraint, PermittedSupply, PermittedSchedule}
+use Rattle.tables.specs.Reading.{refused, refusal}
+use Rattle.tables.specs.Rows.{SupplyRow, constraintRow, supplyRow, scheduleRow}
+use Rattle.tables.specs.Table.{table, constraintColumns}
+use Rattle.tables.specs.declared.files.File.{File}
+use Rattle.tables.specs.declared.files.File.the-variants.{Constraint, Supply, Schedules}
+use Rattle.tables.proofs.Accepted.{accepted}
+use Rattle.tables.proofs.Permitted as Permitted
+use Rattle.filing.specs.Filing.{rowCells, constraintOf, supplyOf, schedulesOf, filingRefusal}
+use Rattle.filing.specs.Kept.{Kept}
+use Rattle.filing.specs.Schedules.{schedulesAtOdds, strange, unscheduled, lacking}
+use Rattle.filing.specs.Supply.{
+  mostUnits,
+  mostSuppliers,
+  units,
+  unitsFrom,
+  suppliers,
+  suppliersFrom,
+  crowded,
+  crowdedFrom,
+  supplyAtOdds,
+}
+use Rattle.filing.specs.SupplyPromises.{tooMany}
+use Rattle.filing.proofs.FilingLaws.{rows-count, supply-count, schedules-count}
+
+-- rows within the ranges
+all-mapped :
+    {A B : Type 0} {P : A → Type 0} {Q : B → Type 0} (f : A → B) {xs : List A} → ((x : A) → P x → Q (f x)) → All P xs →
+    All Q (map f xs)
+all-mapped f g all-none = all-none
+all-mapped f g (all-more {x = x} p a) = all-more (g x p) (all-mapped f g a)
+
+permitted : (f : File) (s : List ℕ) → refusal f s ≡ none → All (PermittedCells (table f .columns)) (rowCells f s)
+unfolding rowCells
+permitted f s e = accepted f s e .permitted
+
+pub constraint-kept : (c : List ℕ) → refusal Constraint c ≡ none → PermittedConstraint (constraintOf c)
+unfolding constraintOf rowCells
+constraint-kept c e = go (rowCells Constraint c) (permitted Constraint c e) (rw (rows-count Constraint c) (accepted Constraint c e .fewest))
+  where
+    go : (xs : List (List ℕ)) → All (PermittedCells constraintColumns) xs → 1 ≤ length xs → PermittedConstraint (constraintRow (getD xs 0 []))
+    go [] a h = absurd (omega arith)
+    go (x ∷ xs) (all-more p a) h = Permitted.constraint-permitted p
+
+pub supply-kept : (s : List ℕ) → refusal Supply s ≡ none → All PermittedSupply (supplyOf s)
+unfolding supplyOf
+supply-kept s e = all-mapped supplyRow (λ (x : List ℕ) p. Permitted.supply-permitted p) (permitted Supply s e)
+
+pub schedules-kept : (h : List ℕ) → refusal Schedules h ≡ none → All PermittedSchedule (schedulesOf h)
+unfolding schedulesOf
+schedules-kept h e = all-mapped scheduleRow (λ (x : List ℕ) p. Permitted.schedule-permitted p) (permitted Schedules h e)
+
+-- units and suppliers that crowd no file
+record Few (us ss : List ℕ) : Type 0 where
+  few-units : length us ≤ mostUnits
+  few-suppliers : length ss ≤ mostSuppliers
+
+few-from :
+    (us ss : List ℕ) (k : ℕ) (rs : List SupplyRow) → Few us ss → crowdedFrom us ss k rs ≡ none → Few (unitsFrom us rs) (suppliersFrom ss rs)
+unfolding crowdedFrom unitsFrom suppliersFrom tooMany
+few-from us ss k [] f e = f
+few-from us ss k (r ∷ rs) f e =
+    go (tooMany (length us') (length ss')) refl (λ (g : Few us' ss') (d : more ≡ none). few-from us' ss' (suc k) rs g d) e
+  where
+    us' : List ℕ
+    us' = inserted (r .unit) us
+
+    ss' : List ℕ
+    ss' = inserted (r .supplier) ss
+
+    more : Option ℕ
+    more = crowdedFrom us' ss' (suc k) rs
+
+    Later : Type 0
+    Later = Few (unitsFrom us' rs) (suppliersFrom ss' rs)
+
+    go : (t : Bool) → tooMany (length us') (length ss') ≡ t → (Few us' ss' → more ≡ none → Later) → cond t (some k) more ≡ none → Later
+    go true q later d = let z : _≡_ {A = ℕ} 0 1 = cc in absurd (omega arith)
+    go false q later d =
+        later
+        (record {
+          few-units = ltb-false _ _ (or-fst (ltb mostUnits (length us')) (ltb mostSuppliers (length ss')) q);
+          few-suppliers = ltb-false _ _ (or-snd (ltb mostUnits (length us')) (ltb mostSuppliers (length ss')) q);
+        })
+        d
+
+few : (rs : List SupplyRow) → crowded rs ≡ none → Few (units rs) (suppliers rs)
+unfolding crowded units suppliers
+few rs e = few-from [] [] 1 rs (record { few-units = omega arith; few-suppliers = omega arith }) e
+
+pub kept : (c s h : List ℕ) → filingRefusal c s h ≡ none → Kept c s h
+unfolding filingRefusal
+kept c s h e =
+    let us = units (supplyOf s) in
+    let rs = schedulesOf h in
+    let a = first-of-none (refusal Constraint c) _ e in
+    let b = first-of-none (refusal Supply s) _ (a .1) in
+    let o5 = first-of-none _ _ (b .1) in
+    let o6 = first-of-none _ _ (o5 .1) in
+    let d = first-of-none (refusal Schedules h) _ (o6 .1) in
+    let p6 = first-of-none _ _ (d .1) in
+    let p7 = first-of-none _ _ (p6 .1) in
+    let p8 = first-of-none _ _ (p7 .1) in
+    let p9 = first-of-none _ [] (p8 .1) in
+    let uncrowded = option-map-none (refused 5 Supply) (crowded (supplyOf s)) (o5 .0) in
+    record {
+      constraint-read = a .0;
+      supply-read = b .0;
+      schedules-read = d .0;
+      constraint-permitted = constraint-kept c (a .0);
+      supply-permitted = supply-kept s (b .0);
+      schedules-permitted = schedules-kept h (d .0);
+      supply-few = rw (supply-count s) (accepted Supply s (b .0) .most);
+      schedules-few = rw (schedules-count h) (accepted Schedules h (d .0) .most);
+      uncrowded = uncrowded;
+      units-few = few (supplyOf s) uncrowded .few-units;
+      suppliers-few = few (supplyOf s) uncrowded .few-suppliers;
+      supply-agrees = option-map-none (refused 6 Supply) (supplyAtOdds (supplyOf s)) (o6 .0);
+      schedules-agree = option-map-none (refused 6 Schedules) (schedulesAtOdds rs) (p6 .0);
+      known = option-map-none (refused 7 Schedules) (strange us rs) (p7 .0);
+      scheduled = option-map-none (refused 8 Schedules) (unscheduled us rs) (p8 .0);
+      whole = option-map-none (refused 9 Schedules) (lacking (constraintOf c .hour) us rs) (p9 .0);
+    }

@@ -1,0 +1,14 @@
+pub mod Demand3
+pub mod ExposedRight
+pub mod LayoutLaws
+pub mod OneMarket
+pub mod OwnRows
+pub mod RisingSame
+pub mod RowLaws
+pub mod RowsToBytes
+pub mod ScheduleRight
+pub mod SearchLaws
+pub mod Sound
+pub mod TestRight
+pub mod UnitRows
+pub mod UnitSupplier

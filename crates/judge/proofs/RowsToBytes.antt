@@ -1,0 +1,103 @@
+-- Demand 3 from single rows to whole answers: where the row that is decided of each unit is right, and is the only row of that
+-- unit that is, the decided rows are right as a whole, and the only ones. Assumes nothing beyond its arguments.
+use Prim.Native.Nat.{ℕ}
+use mathlib.Core.Path.{_≡_, refl, sym, _∙_, ap, ap₂, subst}
+use mathlib.Core.List.{List, [], _∷_, map, List·Memᴰ as Among, List·Memᴰ·head as here, List·Memᴰ·tail as later, Memᴰ·map as among-map, Memᴰ·of-map as of-map}
+use Rattle.base.specs.Rising.{RisingFrom}
+use Rattle.base.specs.Search.{All, all-none, all-more}
+use Rattle.base.proofs.Elements.{all-mem}
+use Rattle.tables.specs.Rows.{ConstraintRow, SupplyRow, ScheduleRow}
+use Rattle.filing.specs.Supply.{units}
+use Rattle.judge.specs.Answer.{AnswerRow}
+use Rattle.judge.specs.Day.{RunningUnit}
+use Rattle.judge.specs.Decision.{unitRow, decidedRow, decided}
+use Rattle.judge.specs.Right.{RightRow, RowPerUnit, RowOf}
+use Rattle.judge.proofs.RisingSame.{rising-same}
+use Rattle.judge.proofs.UnitRows.{row-has-unit}
+use Rattle.judge.proofs.UnitSupplier.{unit-row}
+
+-- what each member has, all have
+all-of : {A : Type 0} {P : A → Type 0} (xs : List A) → ((x : A) → Among x xs → P x) → All P xs
+all-of [] f = all-none
+all-of {A} (x ∷ xs) f = all-more (f x (here refl)) (all-of xs (λ (y : A) (m : Among y xs). f y (later m)))
+
+abbrev shownUnit : AnswerRow → ℕ
+shownUnit r = r .unit
+
+-- rows that are each made from their unit are all made from their units
+made-from-units : (f : ℕ → AnswerRow) {rs : List AnswerRow} → All (λ (r : AnswerRow). r ≡ f (r .unit)) rs → rs ≡ map f (map shownUnit rs)
+made-from-units f all-none = refl
+made-from-units f (all-more e a) = ap₂ _∷_ e (made-from-units f a)
+
+module _ (c : ConstraintRow) (supply : List SupplyRow) (scheduled : List ScheduleRow) (running : List RunningUnit) where
+  abbrev row : ℕ → AnswerRow
+  row = decidedRow c supply scheduled running
+
+  abbrev IsRight : AnswerRow → Type 0
+  IsRight = RightRow c supply scheduled running
+
+  row-unit : (u : ℕ) → row u .unit ≡ u
+  unfolding decidedRow
+  row-unit u = refl
+
+  rows-units : (us : List ℕ) → map shownUnit (map row us) ≡ us
+  rows-units [] = refl
+  rows-units (u ∷ us) = ap₂ _∷_ (row-unit u) (rows-units us)
+
+  module _ (rising : RisingFrom 0 (units supply)) where
+    decided-per-unit : RowPerUnit c supply (decided c supply scheduled running)
+    unfolding decided
+    decided-per-unit =
+        record {
+          rising = rw (rows-units (units supply)) rising;
+          a-unit = a-unit;
+          every-unit = λ w m. (row (w .unit), among-map row (row-has-unit supply w m), row-unit (w .unit));
+        }
+      where
+        a-unit : (r : AnswerRow) → Among r (map row (units supply)) → (w : SupplyRow) × RowOf c supply (r .unit) w
+        a-unit r m =
+            let made = of-map row (units supply) m in
+            let same : made .0 ≡ r .unit = sym (row-unit (made .0)) ∙ ap shownUnit (made .2) in
+            (unitRow supply (made .0), subst (λ (u : ℕ). RowOf c supply u (unitRow supply (made .0))) same (unit-row c supply (made .0) (made .1)))
+
+    -- rows of each unit, by rising number, are rows of the units of the supply file
+    units-shown : (rs : List AnswerRow) → RowPerUnit c supply rs → map shownUnit rs ≡ units supply
+    units-shown rs per-unit = rising-same (per-unit .rising) rising (λ u. (to-supply u, to-rows u))
+      where
+        to-supply : (u : ℕ) → Among u (map shownUnit rs) → Among u (units supply)
+        to-supply u m =
+            let shown = of-map shownUnit rs m in
+            let found = per-unit .a-unit (shown .0) (shown .1) in
+            rw (sym (shown .2) ∙ sym (found .1 .its-unit)) (row-has-unit supply (found .0) (found .1 .a-row))
+
+        to-rows : (u : ℕ) → Among u (units supply) → Among u (map shownUnit rs)
+        to-rows u m =
+            let found = unit-row c supply u m in
+            let shown = per-unit .every-unit (unitRow supply u) (found .a-row) in
+            rw (sym (found .its-unit) ∙ sym (shown .2)) (among-map shownUnit (shown .1))
+
+    pub rows-right :
+        ((u : ℕ) → Among u (units supply) → IsRight (row u)) →
+        RowPerUnit c supply (decided c supply scheduled running) × All IsRight (decided c supply scheduled running)
+    unfolding decided
+    rows-right right = (decided-per-unit, all-of (map row (units supply)) each)
+      where
+        each : (r : AnswerRow) → Among r (map row (units supply)) → IsRight r
+        each r m =
+            let made = of-map row (units supply) m in
+            subst IsRight (made .2) (right (made .0) (made .1))
+
+    pub rows-only :
+        ((r : AnswerRow) → Among (r .unit) (units supply) → IsRight r → r ≡ row (r .unit)) →
+        (rs : List AnswerRow) → RowPerUnit c supply rs → All IsRight rs → rs ≡ decided c supply scheduled running
+    unfolding decided
+    rows-only only rs per-unit every-row =
+        made-from-units row (all-of rs each) ∙ ap (map row) (units-shown rs per-unit)
+      where
+        each : (r : AnswerRow) → Among r rs → r ≡ row (r .unit)
+        each r m =
+            let found = per-unit .a-unit r m in
+            let listed : Among (r .unit) (units supply) =
+            rw (sym (found .1 .its-unit)) (row-has-unit supply (found .0) (found .1 .a-row))
+            in
+            only r listed (all-mem every-row m)

@@ -1,0 +1,31 @@
+-- The unit of a supply row is among the units of the file. Assumes nothing.
+use Prim.Native.Nat.{ℕ}
+use mathlib.Core.Path.{_≡_, refl, sym, _∙_}
+use mathlib.Core.Bool.{true}
+use mathlib.Core.List.{List, [], _∷_, List·Memᴰ as Among}
+use lib.Dec.{eqb}
+use borrow.Author.Tests.{eq-eqb, eqb-true}
+use Rattle.base.specs.Rising.{among}
+use Rattle.base.specs.Search.{any}
+use Rattle.base.proofs.Elements.{any-mem}
+use Rattle.tables.specs.Rows.{SupplyRow}
+use Rattle.filing.specs.Supply.{units}
+use Rattle.filing.proofs.UnitLaws.{among-units}
+use Rattle.judge.proofs.SearchLaws.{mem-any}
+
+-- the test of being among some numbers is that of any of them being the one
+among-any : (x : ℕ) (xs : List ℕ) → among x xs ≡ any (λ (y : ℕ). eqb x y) xs
+unfolding among any
+among-any x [] = refl
+among-any x (y ∷ ys) = rw (among-any x ys)
+
+test-among : (x : ℕ) (xs : List ℕ) → among x xs ≡ true → Among x xs
+test-among x xs e =
+    let found = any-mem (λ (y : ℕ). eqb x y) xs (sym (among-any x xs) ∙ e) in
+    rw (eqb-true x (found .0) (found .2)) (found .1)
+
+pub row-has-unit : (supply : List SupplyRow) (w : SupplyRow) → Among w supply → Among (w .unit) (units supply)
+row-has-unit supply w m =
+    test-among (w .unit) (units supply)
+    (among-units (w .unit) supply
+    ∙ mem-any (λ (r : SupplyRow). eqb (r .unit) (w .unit)) m (eq-eqb (w .unit) (w .unit) refl))

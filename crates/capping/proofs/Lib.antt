@@ -1,0 +1,3 @@
+pub mod FormingLaws
+pub mod ReleaseLaws
+pub mod ViewLaws

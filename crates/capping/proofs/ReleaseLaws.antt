@@ -69,7 +69,7 @@ module _ (u count : ℕ) (running : List Running) where
         omega (arith, p .further, p .upto)
 
 -- a unit runs where it has a place
-place-runs : (u : ℕ) (rs : List RunningUnit) → placeOf u rs < length rs → runs u rs ≡ true
+pub place-runs : (u : ℕ) (rs : List RunningUnit) → placeOf u rs < length rs → runs u rs ≡ true
 unfolding placeOf leading runs any
 place-runs u [] h = absurd (not-suc-le-zero h)
 place-runs u (r ∷ rs) h = go (eqb (r .unit) u) h (place-runs u rs)
@@ -83,7 +83,7 @@ place-runs u (r ∷ rs) h = go (eqb (r .unit) u) h (place-runs u rs)
     go true k ih = refl
     go false k ih = ih (le-of-suc-le-suc k)
 
-place-rests : (u : ℕ) (rs : List RunningUnit) → length rs ≤ placeOf u rs → runs u rs ≡ false
+pub place-rests : (u : ℕ) (rs : List RunningUnit) → length rs ≤ placeOf u rs → runs u rs ≡ false
 unfolding placeOf leading runs any
 place-rests u [] h = refl
 place-rests u (r ∷ rs) h = go (eqb (r .unit) u) h (place-rests u rs)

@@ -41,6 +41,15 @@ first-next d n rs i h k = rw add-one (go n rs i h k)
     go (suc n) (r ∷ rs) zero h k = refl
     go (suc n) (r ∷ rs) (suc i) h k = go n rs i (le-of-suc-le-suc h) (le-of-suc-le-suc k)
 
+pub first-at :
+    (m : RunningUnit) (n : ℕ) (rs : List Running) (i : ℕ) → i < n → i < length rs →
+    getD (firstUnits n rs) i m ≡ unitOf (getD rs i unused)
+unfolding firstUnits
+first-at m zero rs i h k = absurd (not-suc-le-zero h)
+first-at m (suc n) [] i h k = absurd (not-suc-le-zero k)
+first-at m (suc n) (r ∷ rs) zero h k = refl
+first-at m (suc n) (r ∷ rs) (suc i) h k = first-at m n rs i (le-of-suc-le-suc h) (le-of-suc-le-suc k)
+
 pub first-end : (n : ℕ) (rs : List Running) (i : ℕ) → n ≤ i → drop i (firstUnits n rs) ≡ []
 first-end n rs i h = drop-end i (firstUnits n rs) (rw first-length h)
 

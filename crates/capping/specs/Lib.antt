@@ -1,2 +1,3 @@
+pub mod Asking
 pub mod Releasing
 pub mod View

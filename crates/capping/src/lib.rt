@@ -1,4 +1,5 @@
 // The engine: the day by value, with what is done to it.
+mod asking;
 mod day;
 mod forming;
 mod releasing;

@@ -1,3 +1,5 @@
+pub mod DayLaws
+pub mod DayRanges
 pub mod Demand3
 pub mod ExposedRight
 pub mod LayoutLaws

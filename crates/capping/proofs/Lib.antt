@@ -1,0 +1,4 @@
+pub mod AskingLaws
+pub mod FormingLaws
+pub mod ReleaseLaws
+pub mod ViewLaws

@@ -1,4 +1,5 @@
 pub mod ChoosingLaws
+pub mod DecidedRows
 pub mod DecidingLaws
 pub mod StandingLaws
 pub mod TestingLaws

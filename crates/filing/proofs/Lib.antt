@@ -6,5 +6,6 @@ pub mod NumberLaws
 pub mod OddsLaws
 pub mod RunLaws
 pub mod ScheduleLaws
+pub mod StepLaws
 pub mod SupplyLaws
 pub mod UnitLaws

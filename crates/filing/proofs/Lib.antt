@@ -4,6 +4,7 @@ pub mod GatherLaws
 pub mod KeptLaws
 pub mod NumberLaws
 pub mod OddsLaws
+pub mod Rooms
 pub mod RunLaws
 pub mod ScheduleLaws
 pub mod StepLaws

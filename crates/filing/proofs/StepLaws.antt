@@ -12,7 +12,6 @@ use Rattle.tables.specs.Laying.{FileRead, room}
 use Rattle.tables.specs.Ranges.{PermittedSchedule}
 use Rattle.tables.specs.Reading.{refused, refusal, rows}
 use Rattle.tables.specs.Rows.{ScheduleRow, ConstraintRow, supplyRows, scheduleRows}
-use Rattle.tables.specs.Table.{width, constraintColumns, supplyColumns, schedulesColumns}
 use Rattle.tables.specs.declared.files.File.the-variants.{Constraint, Supply, Schedules}
 use Rattle.tables.specs.declared.files.Reading.{Reading}
 use Rattle.tables.specs.declared.files.Reading.the-variants.{Rows as RowsRead, Refused as NotRead}
@@ -41,6 +40,7 @@ use Rattle.filing.proofs.FilingLaws.{
   schedules-checked,
 }
 use Rattle.filing.proofs.KeptLaws.{constraint-kept, schedules-kept, units-few}
+use Rattle.filing.proofs.Rooms.{supply-room, schedules-room}
 
 some-none : {A : Type 0} {x : Refusal} → some x ≡ none → A
 some-none e = let z : _≡_ {A = ℕ} 0 1 = cc in absurd (omega arith)
@@ -80,9 +80,8 @@ module _ (s old new : List ℕ) (r : Reading) (read : FileRead Supply s old new 
     supply-rows-read : supplyRows n new ≡ supplyOf s
     supply-rows-read = rw supply-number (supply-rows s old new r supply-was-read read)
 
-    pub supply-room : room Supply ≤ length new → n * 5 ≤ length new
-    unfolding room width supplyColumns
-    supply-room h = omega (arith, was-read Supply s (read .answers) e .1, accepted Supply s supply-was-read .most)
+    pub supply-fits : room Supply ≤ length new → n * 5 ≤ length new
+    supply-fits h = omega (arith, supply-room, was-read Supply s (read .answers) e .1, accepted Supply s supply-was-read .most)
 
     pub supply-filed :
         (us : List ℕ) (q : SupplyCheck) (a : SupplyFiling) → SupplyChecked (supplyRows n new) us q → a ≡ supplyAnswer n q → SupplyFiled s new us a
@@ -124,12 +123,11 @@ module _ (h old new : List ℕ) (r : Reading) (read : FileRead Schedules h old n
     schedule-rows-read : scheduleRows n new ≡ schedulesOf h
     schedule-rows-read = rw schedules-number (schedule-rows h old new r schedules-were-read read)
 
-    pub schedules-room : room Schedules ≤ length new → (n ≤ 1024) × (n * 9 ≤ length new)
-    unfolding room width schedulesColumns
-    schedules-room m =
+    pub schedules-fit : room Schedules ≤ length new → (n ≤ 1024) × (n * 9 ≤ length new)
+    schedules-fit m =
         let few = accepted Schedules h schedules-were-read .most in
         let count = was-read Schedules h (read .answers) e .1 in
-        (omega (arith, count, few), omega (arith, count, few))
+        (omega (arith, count, few), omega (arith, schedules-room, count, few))
 
     pub schedules-in-hours : (hour : ℕ) → hour ≤ lastHour → InHoursOf hour (scheduleRows n new)
     schedules-in-hours hour m =
@@ -175,9 +173,9 @@ module _ (s supply us : List ℕ) (q : SupplyFiling) (so-far : SupplyFiled s sup
             let z : _≡_ {A = ℕ} 0 1 = cc in
             absurd (omega arith)
 
-    pub count-room : mostUnits < length us → k ≤ length us
+    pub count-fits : mostUnits < length us → k ≤ length us
     unfolding supplyRefusal
-    count-room m =
+    count-fits m =
         let five = first-of-none _ _ (first-of-none (refusal Supply s) _ (passed .0) .1) .0 in
         let uncrowded = option-map-none (refused 5 Supply) (crowded (supplyOf s)) five in
         omega (arith, passed .2, units-few (supplyOf s) uncrowded)
@@ -211,10 +209,6 @@ module _ (s supply us : List ℕ) (q : SupplyFiling) (so-far : SupplyFiled s sup
         go (some x) = refl
 
 -- all three
-pub constraint-room : 0 < room Constraint
-unfolding room width constraintColumns
-constraint-room = omega arith
-
 module _ (c old constraint : List ℕ) (r : Reading) (read : FileRead Constraint c old constraint r) where
   pub files-unfiled :
       (s h supply schedules us : List ℕ) {x : Refusal} → r ≡ NotRead x → FilesFiled c s h constraint supply schedules us (Refused x)

@@ -1,5 +1,6 @@
 -- The constraint, then the rows of supply and schedules. Assumes nothing.
-use Rattle.filing.proofs.StepLaws.{files-unfiled, constraint-room, hour-permitted, files-filed}
+use Rattle.filing.proofs.StepLaws.{files-unfiled, hour-permitted, files-filed}
+use Rattle.filing.proofs.Rooms.{constraint-room}
 use native.Mathlib.Omega.{arith}
 use borrow.Author.Needs.{needs}
 use Rattle.filing.proofs.files.file.Statement.{statement}

@@ -1,5 +1,5 @@
 -- Supply, then schedules behind it. Assumes nothing.
-use Rattle.filing.proofs.StepLaws.{rows-unfiled, count-room, rows-filed}
+use Rattle.filing.proofs.StepLaws.{rows-unfiled, count-fits, rows-filed}
 use borrow.Author.Needs.{needs}
 use Rattle.filing.proofs.files.file_rows.Statement.{statement}
 use Rattle.filing.proofs.files.file_rows.Tie as tie
@@ -14,7 +14,7 @@ enum-known-filing-2 : tie.Need-enum-known-filing-2
 enum-known-filing-2 c = search needs
 
 file-schedules-requires : tie.Need-file-schedules-requires
-file-schedules-requires c κs = (search needs, (count-room _ _ _ _ (c .before .before .before .before .before .before .before .before .before .file-supply .ensures) _ _ (c .before .before .before .filing2 .given .1) (search needs), search needs))
+file-schedules-requires c κs = (search needs, (count-fits _ _ _ _ (c .before .before .before .before .before .before .before .before .before .file-supply .ensures) _ _ (c .before .before .before .filing2 .given .1) (search needs), search needs))
 
 rows-answer-requires : tie.Need-rows-answer-requires
 rows-answer-requires c κs = search needs

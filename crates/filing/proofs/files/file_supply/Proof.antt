@@ -1,5 +1,5 @@
 -- Supply read, then checked. Assumes nothing.
-use Rattle.filing.proofs.StepLaws.{supply-unread, supply-room, supply-filed}
+use Rattle.filing.proofs.StepLaws.{supply-unread, supply-fits, supply-filed}
 use borrow.Author.Needs.{needs}
 use Rattle.filing.proofs.files.file_supply.Statement.{statement}
 use Rattle.filing.proofs.files.file_supply.Tie as tie
@@ -14,7 +14,7 @@ enum-known-reading-2 : tie.Need-enum-known-reading-2
 enum-known-reading-2 c = search needs
 
 check-supply-requires : tie.Need-check-supply-requires
-check-supply-requires c κs = (supply-room _ _ _ _ (c .before .before .before .before .before .before .before .read .ensures) _ (c .before .before .before .reading2 .given .1) (search needs), search needs)
+check-supply-requires c κs = (supply-fits _ _ _ _ (c .before .before .before .before .before .before .before .read .ensures) _ (c .before .before .before .reading2 .given .1) (search needs), search needs)
 
 supply-answer-requires : tie.Need-supply-answer-requires
 supply-answer-requires c κs = search needs

@@ -1,0 +1,4 @@
+// The engine as its hosts call it.
+mod check;
+
+pub use check::capping_check;

@@ -1,9 +1,11 @@
-// The engine: the day by value, with what is done to it.
+// The engine: the day by value, with what is done to it, and what host programs in C or Rust link.
 mod asking;
+mod check;
 mod day;
 mod forming;
 mod releasing;
 
+pub use check::capping_check;
 pub use day::Day;
 pub use day::LastHour;
 pub use day::Running;

@@ -1,16 +1,15 @@
 -- Laws of the checks of one file's rows: one for each way through the code. Assumes nothing.
-use Prim.Native.Nat.{ℕ, _<_}
-use mathlib.Core.Path.{_≡_, refl, sym, _∙_, ap}
+use Prim.Native.Nat.{ℕ}
+use mathlib.Core.Path.{_≡_, refl, sym, _∙_}
 use mathlib.Core.List.{List}
 use mathlib.Core.Option.{Option, none, some, Option·getD}
 use native.Mathlib.Omega.{arith}
-use lib.ListN.{length, take}
 use Rattle.tables.specs.Rows.{SupplyRow, ScheduleRow}
 use Rattle.filing.specs.Answers.{lowestOf}
 use Rattle.filing.specs.Checks.{supplyChecked, runsChecked, schedulesChecked, SupplyChecked, InHoursOf}
 use Rattle.filing.specs.Ranges.{Checked}
 use Rattle.filing.specs.Schedules.{schedulesAtOdds, strange, unscheduled, lacking}
-use Rattle.filing.specs.Supply.{mostUnits, units, crowded, supplyAtOdds}
+use Rattle.filing.specs.Supply.{units, crowded, supplyAtOdds}
 use Rattle.filing.specs.SupplyPromises.{Counted}
 use Rattle.filing.specs.declared.checks.ScheduleCheck.{ScheduleCheck}
 use Rattle.filing.specs.declared.checks.ScheduleCheck.the-variants.{

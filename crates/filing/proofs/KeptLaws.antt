@@ -102,6 +102,9 @@ few : (rs : List SupplyRow) → crowded rs ≡ none → Few (units rs) (supplier
 unfolding crowded units suppliers
 few rs e = few-from [] [] 1 rs (record { few-units = omega arith; few-suppliers = omega arith }) e
 
+pub units-few : (rs : List SupplyRow) → crowded rs ≡ none → length (units rs) ≤ mostUnits
+units-few rs e = few rs e .few-units
+
 pub kept : (c s h : List ℕ) → filingRefusal c s h ≡ none → Kept c s h
 unfolding filingRefusal
 kept c s h e =
@@ -127,7 +130,7 @@ kept c s h e =
       supply-few = rw (supply-count s) (accepted Supply s (b .0) .most);
       schedules-few = rw (schedules-count h) (accepted Schedules h (d .0) .most);
       uncrowded = uncrowded;
-      units-few = few (supplyOf s) uncrowded .few-units;
+      units-few = units-few (supplyOf s) uncrowded;
       suppliers-few = few (supplyOf s) uncrowded .few-suppliers;
       supply-agrees = option-map-none (refused 6 Supply) (supplyAtOdds (supplyOf s)) (o6 .0);
       schedules-agree = option-map-none (refused 6 Schedules) (schedulesAtOdds rs) (p6 .0);

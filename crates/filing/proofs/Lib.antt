@@ -4,7 +4,9 @@ pub mod GatherLaws
 pub mod KeptLaws
 pub mod NumberLaws
 pub mod OddsLaws
+pub mod Rooms
 pub mod RunLaws
 pub mod ScheduleLaws
+pub mod StepLaws
 pub mod SupplyLaws
 pub mod UnitLaws

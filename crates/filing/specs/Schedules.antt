@@ -2,9 +2,9 @@
 -- and minrun; no two share the hour. A unit has at most one M schedule. With study hour h, a schedule's run is the hours
 -- from h to the lesser of h + minrun - 1 and 23, and every schedule has a row for each." A schedule is a unit's, by its
 -- number. Assumes nothing.
-use Prim.Native.Nat.{ℕ, zero, suc, _+_, _-_}
-use mathlib.Core.Bool.{Bool, true, cond, not, _&&_, _||_}
-use mathlib.Core.List.{List, [], _∷_}
+use Prim.Native.Nat.{ℕ, zero, suc, _-_}
+use mathlib.Core.Bool.{Bool, true, not, _&&_, _||_}
+use mathlib.Core.List.{List, []}
 use mathlib.Core.Option.{Option}
 use lib.Dec.{eqb}
 use Rattle.base.specs.Rising.{among}

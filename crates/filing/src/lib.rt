@@ -8,4 +8,7 @@ mod runs;
 mod schedules;
 mod supply;
 
+pub use files::Filed;
+pub use files::Sizes;
+pub use files::file;
 pub use gathering::gather;

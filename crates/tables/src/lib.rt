@@ -10,4 +10,5 @@ pub use files::File;
 pub use files::Kind;
 pub use files::Reading;
 pub use files::Refusal;
+pub use files::number;
 pub use reading::read;

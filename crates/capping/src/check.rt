@@ -1,0 +1,37 @@
+// The check of a study's three files for host programs: 0, or the number of the first refusal as far
+// as 9. Assumes nothing of the bytes.
+ghost use mathlib.Core.Path.{_≡_};
+ghost use Rattle.filing.specs.Filing.{checkNumber};
+use filing::Filed;
+
+// The cells of the longest files, and a place for the unit that is one too many.
+const CONSTRAINT_CELLS: usize = 3;
+
+const SUPPLY_CELLS: usize = 1280;
+
+const SCHEDULE_CELLS: usize = 9216;
+
+const UNITS: usize = 65;
+
+#[no_mangle]
+pub extern "C" fn capping_check(constraint: &[u8], supply: &[u8], schedules: &[u8]) -> u64
+    ensures { λ r. ⌜ r ≡ checkNumber (now (constraint .entry)) (now (supply .entry)) (now (schedules .entry)) ⌝ }
+{
+    let mut constraint_cells = [0u64; CONSTRAINT_CELLS];
+    let mut supply_cells = [0u64; SUPPLY_CELLS];
+    let mut schedule_cells = [0u64; SCHEDULE_CELLS];
+    let mut units = [0u64; UNITS];
+    let filed = filing::file(
+        constraint,
+        supply,
+        schedules,
+        &mut constraint_cells,
+        &mut supply_cells,
+        &mut schedule_cells,
+        &mut units,
+    );
+    match filed {
+        Filed::Rows(_) => 0,
+        Filed::Refused(refusal) => refusal.number,
+    }
+}

@@ -1,0 +1,61 @@
+// What a case prints. Assumes nothing.
+use filing::Filed;
+use filing::Sizes;
+use libc::STDOUT_FILENO;
+use tables::Refusal;
+
+// The cells of the longest files, and a place for the unit that is one too many.
+const CONSTRAINT_CELLS: usize = 3;
+
+const SUPPLY_CELLS: usize = 1280;
+
+const SCHEDULE_CELLS: usize = 9216;
+
+const UNITS: usize = 65;
+
+// Files three files and prints the refusal, or how many rows and units there are.
+pub fn case(constraint: &[u8], supply: &[u8], schedules: &[u8]) {
+    let mut constraint_cells = [0u64; CONSTRAINT_CELLS];
+    let mut supply_cells = [0u64; SUPPLY_CELLS];
+    let mut schedule_cells = [0u64; SCHEDULE_CELLS];
+    let mut units = [0u64; UNITS];
+    let filed = filing::file(
+        constraint,
+        supply,
+        schedules,
+        &mut constraint_cells,
+        &mut supply_cells,
+        &mut schedule_cells,
+        &mut units,
+    );
+    match filed {
+        Filed::Rows(sizes) => print_sizes(sizes),
+        Filed::Refused(refusal) => print_refusal(refusal),
+    }
+}
+
+fn print_sizes(sizes: Sizes) {
+    print(b"rows ");
+    print_three(
+        sizes.supply as u64,
+        sizes.schedules as u64,
+        sizes.units as u64,
+    );
+}
+
+fn print_refusal(refusal: Refusal) {
+    print_three(refusal.number, refusal.file, refusal.place);
+}
+
+fn print_three(a: u64, b: u64, c: u64) {
+    io::print_decimal(STDOUT_FILENO, a);
+    print(b",");
+    io::print_decimal(STDOUT_FILENO, b);
+    print(b",");
+    io::print_decimal(STDOUT_FILENO, c);
+    print(b"\n");
+}
+
+fn print(text: &[u8]) {
+    io::write_all(STDOUT_FILENO, text);
+}

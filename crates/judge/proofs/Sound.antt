@@ -18,7 +18,7 @@ use Rattle.filing.proofs.KeptLaws.{kept}
 use Rattle.market.specs.Clearing.{needOf}
 use Rattle.judge.specs.Day.{RunningUnit, DayView, dayFormed, unless}
 use Rattle.judge.specs.Decision.{need, costless}
-use Rattle.judge.specs.Study.{decisionRefusal}
+use Rattle.judge.specs.Study.{decisionRefusal, rowsRefusals}
 
 pub record Sound
     (c : ConstraintRow) (supply : List SupplyRow) (scheduled : List ScheduleRow) (running : List RunningUnit)
@@ -40,14 +40,14 @@ some-need s = omega (arith, s .constraint .some-relief)
 module _ (d : DayView) (c s h : List ℕ) (e : decisionRefusal d c s h ≡ none) where
   -- the files are such as filing accepts
   pub files-kept : Kept c s h
-  unfolding decisionRefusal
+  unfolding decisionRefusal rowsRefusals
   files-kept =
       let formed = first-of-none (unless (dayFormed d) 24) _ e in
       kept c s h (first-of-none (filingRefusal c s h) _ (formed .1) .0)
 
   -- 21 is kept
   cost-kept : costless (constraintOf c .hour) (supplyOf s) (schedulesOf h) (d .running) ≡ none
-  unfolding decisionRefusal
+  unfolding decisionRefusal rowsRefusals
   cost-kept =
       let formed = first-of-none (unless (dayFormed d) 24) _ e in
       let filed = first-of-none (filingRefusal c s h) _ (formed .1) in

@@ -9,7 +9,7 @@ use lib.Dec.{leb}
 use lib.ListN.{length, drop}
 use Rattle.base.specs.Search.{firstOf}
 use Rattle.tables.specs.Reading.{refused}
-use Rattle.tables.specs.Rows.{kindOf}
+use Rattle.tables.specs.Rows.{ConstraintRow, SupplyRow, ScheduleRow, kindOf}
 use Rattle.tables.specs.declared.files.File.the-variants.{Schedules}
 use Rattle.tables.specs.declared.files.Refusal.{Refusal}
 use Rattle.filing.specs.Filing.{constraintOf, supplyOf, schedulesOf, filingRefusal}
@@ -31,10 +31,30 @@ pub record Outcome : Type 0 where
   pub day : DayView
   pub buffer : List ℕ
 
-module _ (d : DayView) (c s h : List ℕ) where
-  abbrev pub studyHour : ℕ
-  studyHour = constraintOf c .hour
+-- "A refused call returns the day it was given and changes no byte of the answer buffer." "An accepted study sets the hour and
+-- makes each of its units running on the chosen schedule; every other running unit stays as it was."
+unfoldable pub outcome : DayView → ℕ → List AnswerRow → List ℕ → Option Refusal → Outcome
+outcome d h rows buffer (some r) = record { refusal = some r; day = d; buffer = buffer }
+outcome d h rows buffer none =
+    record { refusal = none; day = committed h (map chosen rows) d; buffer = written (answerText rows) buffer }
 
+-- 22: "more than 64 units would run"
+unfoldable pub crowding : DayView → List ℕ → Option Refusal
+crowding d us = unless (leb (wouldRun us (d .running)) mostRunning) 22
+
+-- 10: "answer buffer shorter than the answer"
+unfoldable pub cramped : List AnswerRow → ℕ → Option Refusal
+cramped rows room = unless (leb (length (answerText rows)) room) 10
+
+-- the refusals that go by the rows of the files: 20, 21, 22
+unfoldable pub rowsRefusals : DayView → ConstraintRow → List SupplyRow → List ScheduleRow → List (Option Refusal)
+rowsRefusals d c supply scheduled =
+    unless (not (earlier (c .hour) (d .hour))) 20
+    ∷ Option·map (refused 21 Schedules) (costless (c .hour) supply scheduled (d .running))
+    ∷ crowding d (units supply)
+    ∷ []
+
+module _ (d : DayView) (c s h : List ℕ) where
   -- the rows of the answer
   unfoldable pub studyRows : List AnswerRow
   studyRows = decided (constraintOf c) (supplyOf s) (schedulesOf h) (d .running)
@@ -47,30 +67,15 @@ module _ (d : DayView) (c s h : List ℕ) where
   unfoldable pub decisionRefusal : Option Refusal
   decisionRefusal =
       firstOf
-      (unless (dayFormed d) 24
-      ∷ filingRefusal c s h
-      ∷ unless (not (earlier studyHour (d .hour))) 20
-      ∷ Option·map (refused 21 Schedules) (costless studyHour (supplyOf s) (schedulesOf h) (d .running))
-      ∷ unless (leb (wouldRun (units (supplyOf s)) (d .running)) mostRunning) 22
-      ∷ [])
+      (unless (dayFormed d) 24 ∷ filingRefusal c s h ∷ rowsRefusals d (constraintOf c) (supplyOf s) (schedulesOf h))
 
   unfoldable pub studyRefusal : ℕ → Option Refusal
-  studyRefusal room = firstOf (decisionRefusal ∷ unless (leb (length answerFile) room) 10 ∷ [])
+  studyRefusal room = firstOf (decisionRefusal ∷ cramped studyRows room ∷ [])
 
-  -- "An accepted study sets the hour and makes each of its units running on the chosen schedule; every other running unit
-  -- stays as it was."
-  unfoldable pub dayAfter : DayView
-  dayAfter = committed studyHour (map chosen studyRows) d
-
-  -- "A refused call returns the day it was given and changes no byte of the answer buffer."
   unfoldable pub studied : List ℕ → Outcome
-  studied buffer = outcome (studyRefusal (length buffer))
-    where
-      outcome : Option Refusal → Outcome
-      outcome (some r) = record { refusal = some r; day = d; buffer = buffer }
-      outcome none = record { refusal = none; day = dayAfter; buffer = written answerFile buffer }
+  studied buffer = outcome d (constraintOf c .hour) studyRows buffer (studyRefusal (length buffer))
 
 -- opens all of the above, for examples that compute
 unfoldable pub study·all : Unit {0}
-unfolding chosen written studyRows answerFile decisionRefusal studyRefusal dayAfter studied
+unfolding chosen written outcome crowding cramped rowsRefusals studyRows answerFile decisionRefusal studyRefusal studied
 study·all = tt

@@ -1,4 +1,5 @@
 pub mod AskingLaws
+pub mod CommitLaws
 pub mod FormingLaws
 pub mod ReleaseLaws
 pub mod ViewLaws

@@ -1,5 +1,6 @@
 // The engine: the day by value, with what is done to it.
 mod asking;
+mod committing;
 mod day;
 mod forming;
 mod releasing;

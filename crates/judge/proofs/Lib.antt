@@ -1,2 +1,3 @@
 pub mod DayLaws
 pub mod DayRanges
+pub mod DayRelease

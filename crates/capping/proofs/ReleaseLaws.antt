@@ -3,7 +3,7 @@ use Prim.Native.Nat.{ℕ, zero, suc, _+_, _-_, _≤_, _<_}
 use mathlib.Core.Path.{_≡_, refl, sym, _∙_, ap}
 use mathlib.Core.Bool.{Bool, true, false, cond, not, _||_}
 use mathlib.Core.List.{List, [], _∷_, _++_, map}
-use mathlib.Core.Option.{none, some}
+use mathlib.Core.Option.{some}
 use native.Mathlib.Numerals.{add-one}
 use native.Mathlib.Omega.{arith}
 use native.Mathlib.Nat.{le-of-suc-le-suc, not-suc-le-zero}
@@ -11,9 +11,10 @@ use lib.Dec.{eqb}
 use lib.ListN.{length, getD, take, drop, set, length-set}
 use lib.Seq.{length-take-le, drop-cons, take-suc-set, append-snoc, take-at}
 use borrow.Author.Tests.{eqb-true, eq-eqb, ne-eqb}
-use Rattle.base.specs.Search.{any, leading, those, firstOf}
+use Rattle.base.specs.Search.{any, leading, those}
 use Rattle.tables.specs.declared.files.Refusal.{Refusal}
-use Rattle.judge.specs.Day.{RunningUnit, DayView, dayFormed, runs, without, unless, stateRefused, releaseRefusal, released}
+use Rattle.judge.specs.Day.{RunningUnit, dayFormed, runs, without, stateRefused, releaseRefusal, released}
+use Rattle.judge.proofs.DayRelease.{is-24, is-23, is-done}
 use Rattle.judge.proofs.DayLaws.{InOrder, none-left, one-more, order-rising, formed, not-below, those-all}
 use Rattle.capping.specs.View.{unitOf, firstUnits, viewOf}
 use Rattle.capping.specs.Releasing.{refusing, Releases, placeOf, removed}
@@ -192,21 +193,6 @@ module _ (at : ℕ) (old : List Running) where
   shift-over count i new e h s =
       let same : suc i ≡ count = omega arith in
       rw same at (shifted i new (omega arith) s)
-
--- the outcomes: 24, then 23, else the day without the unit
-module _ (d : DayView) (u : ℕ) where
-  is-24 : dayFormed d ≡ false → releaseRefusal d u ≡ some (stateRefused 24)
-  unfolding releaseRefusal unless firstOf
-  is-24 e = rw e
-
-  module _ (formed : dayFormed d ≡ true) where
-    is-23 : runs u (d .running) ≡ false → releaseRefusal d u ≡ some (stateRefused 23)
-    unfolding releaseRefusal unless firstOf
-    is-23 e = rw (formed, e)
-
-    is-done : runs u (d .running) ≡ true → releaseRefusal d u ≡ none
-    unfolding releaseRefusal unless firstOf
-    is-done e = rw (formed, e)
 
 -- a refusal with a number hands back the very day
 refuses : (day : Day) (u n : ℕ) (r : Released) → releaseRefusal (viewOf day) u ≡ some (stateRefused n) → r ≡ refusing day n → Releases day u r

@@ -1,3 +1,4 @@
 pub mod Asking
+pub mod Committing
 pub mod Releasing
 pub mod View

@@ -1,6 +1,7 @@
 // The engine: the day by value, with what is done to it, and what host programs in C or Rust link.
 mod asking;
 mod check;
+mod committing;
 mod day;
 mod forming;
 mod releasing;

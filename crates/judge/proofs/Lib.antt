@@ -1,5 +1,6 @@
 pub mod DayLaws
 pub mod DayRanges
+pub mod DayRelease
 pub mod Demand3
 pub mod ExposedRight
 pub mod LayoutLaws

@@ -1,0 +1,54 @@
+-- The places of a day, one after the other. Assumes nothing.
+use Prim.Native.Nat.{_≤_, _-_}
+use borrow.Author.Needs.{needs}
+use Rattle.day_cases.proofs.days.day.Statement.{statement}
+use Rattle.day_cases.proofs.days.day.Tie as tie
+
+abbrev Inv-loop : tie.InvT-loop
+Inv-loop hour count units running₀ i₀ running i = i ≤ 64
+
+abbrev μ-loop : tie.MeasureT-loop
+μ-loop hour count units running₀ i₀ running i = 64 - i
+
+fresh-requires : tie.Need-fresh-requires Inv-loop μ-loop
+fresh-requires c κs = search needs
+
+loop-holds : tie.Need-loop-holds Inv-loop μ-loop
+loop-holds c = search needs
+
+unit-at-requires : tie.Need-unit-at-requires Inv-loop μ-loop
+unit-at-requires c κs = search needs
+
+mul-running : tie.Need-mul-running Inv-loop μ-loop
+mul-running c = search needs
+
+array-set-from-running : tie.Need-array-set-from-running Inv-loop μ-loop
+array-set-from-running c = search needs
+
+add-i : tie.Need-add-i Inv-loop μ-loop
+add-i c = search needs
+
+loop-less : tie.Need-loop-less Inv-loop μ-loop
+loop-less c = search needs
+
+loop-again : tie.Need-loop-again Inv-loop μ-loop
+loop-again c = search needs
+
+returns : tie.Need-returns Inv-loop μ-loop
+returns c = search needs
+
+pub day-spec : {M : Type 1} → statement M
+day-spec =
+    tie.close
+    (tie.spec
+    Inv-loop
+    μ-loop
+    fresh-requires
+    loop-holds
+    unit-at-requires
+    mul-running
+    array-set-from-running
+    add-i
+    loop-less
+    loop-again
+    returns)

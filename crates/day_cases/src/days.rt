@@ -1,0 +1,76 @@
+// The days of the cases, made by hand, well-formed or not. Assumes nothing.
+ghost use Prim.Native.Nat.{_<_};
+use capping::Day;
+use capping::LastHour;
+use capping::Running;
+use tables::Kind;
+
+// The letters of the kinds.
+pub const M: u64 = 0x4D;
+
+pub const C: u64 = 0x43;
+
+// The numbers of a unit: its own, its schedule's, and the letter of its kind.
+const WIDTH: usize = 3;
+
+// A day that counts `count` units, with these in its places and unit 0 in those behind them.
+pub fn day(hour: LastHour, count: usize, units: &[u64]) -> Day {
+    let fresh = Day::fresh();
+    let mut running = fresh.running;
+    let mut i = 0;
+    while i < Day::UNITS {
+        running[i] = unit_at(units, i);
+        i += 1;
+    }
+    Day {
+        hour,
+        count,
+        running,
+    }
+}
+
+// A day that counts `count` units, with 1, 2 and so on in all its places.
+pub fn full(hour: LastHour, count: usize) -> Day {
+    let fresh = Day::fresh();
+    let mut running = fresh.running;
+    let mut i = 0;
+    while i < Day::UNITS {
+        running[i] = on_m(i);
+        i += 1;
+    }
+    Day {
+        hour,
+        count,
+        running,
+    }
+}
+
+fn unit_at(units: &[u64], i: usize) -> Running {
+    if units.len() / WIDTH <= i {
+        return Running {
+            unit: 0,
+            schedule: 0,
+            kind: Kind::M,
+        };
+    }
+    let at = i * WIDTH;
+    Running {
+        unit: units[at],
+        schedule: units[at + 1],
+        kind: kind_of(units[at + 2]),
+    }
+}
+
+fn on_m(i: usize) -> Running
+    requires { ⌜ i < 64 ⌝ }
+{
+    Running {
+        unit: i as u64 + 1,
+        schedule: 1,
+        kind: Kind::M,
+    }
+}
+
+fn kind_of(letter: u64) -> Kind {
+    if letter == M { Kind::M } else { Kind::C }
+}

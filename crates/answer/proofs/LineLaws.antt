@@ -168,7 +168,9 @@ module _ (n : ℕ) (cs : List ℕ) where
       )
 
   -- the length of the rows from a place on, where there is one more
-  pub rest-length : (i : ℕ) → i < n → length (lines (drop i (answerRows n cs))) ≡ length (line (rowAt cs i)) + length (lines (drop (i + 1) (answerRows n cs)))
+  pub rest-length :
+      (i : ℕ) → i < n →
+      length (lines (drop i (answerRows n cs))) ≡ length (line (rowAt cs i)) + length (lines (drop (i + 1) (answerRows n cs)))
   unfolding lines
   rest-length i h = rw (row-next i h) (length-append (line (rowAt cs i)) (lines (drop (i + 1) (answerRows n cs))))
 

@@ -30,7 +30,8 @@ part-write-rows-end c = search needs
 write-rows-requires : tie.Need-write-rows-requires
 write-rows-requires c κs =
     let start = c .before .before .before .before .before .before .before in
-    (start .pre .0, (start .pre .1 .0, rw (rest-lent, length-drop) (omega (arith, text-parts (answerRows (start .args .n) (start .args .cells .now))))))
+    let parts = text-parts (answerRows (start .args .n) (start .args .cells .now)) in
+    (start .pre .0, (start .pre .1 .0, rw (rest-lent, length-drop) (omega (arith, parts))))
 
 add-at : tie.Need-add-at
 add-at c =

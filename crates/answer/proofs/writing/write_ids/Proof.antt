@@ -13,7 +13,8 @@ use Rattle.answer.proofs.writing.write_ids.Tie as tie
 write-number-requires : tie.Need-write-number-requires
 write-number-requires c κs =
     let start = c .before .before .before in
-    (start .pre .0, (omega arith, omega (arith, ids-length (rowAt (start .args .cells .now) (start .args .i)))))
+    let parts = ids-length (rowAt (start .args .cells .now) (start .args .i)) in
+    (start .pre .0, (omega arith, omega (arith, parts)))
 
 sub-write-number : tie.Need-sub-write-number
 sub-write-number c =
@@ -31,7 +32,8 @@ part-write-number-end c = search needs
 write-number-requires-2 : tie.Need-write-number-requires-2
 write-number-requires-2 c κs =
     let start = c .before .before .before .before .before .before .before in
-    (start .pre .0, (omega arith, rw (rest-lent, length-drop) (omega (arith, ids-length (rowAt (start .args .cells .now) (start .args .i))))))
+    let parts = ids-length (rowAt (start .args .cells .now) (start .args .i)) in
+    (start .pre .0, (omega arith, rw (rest-lent, length-drop) (omega (arith, parts))))
 
 add-at : tie.Need-add-at
 add-at c =

@@ -1,5 +1,4 @@
 -- A letter and the comma behind it. Assumes nothing.
-use mathlib.Core.Path.{refl}
 use native.Mathlib.Omega.{arith}
 use lib.ListN.{getD, length-set}
 use Rattle.answer.specs.Rows.{rowCells}
@@ -34,7 +33,7 @@ returns : tie.Need-returns
 returns c =
     let start = c .before .before .before .args in
     let two = letter-length (getD (rowCells (start .cells .now) (start .i)) (start .column) 0) in
-    wrote-letter (c .cell .ensures) refl (omega (arith, two))
+    wrote-letter (c .cell .ensures) (omega arith) (omega (arith, two))
 
 pub write-letter-spec : {M : Type 1} → statement M
 write-letter-spec =

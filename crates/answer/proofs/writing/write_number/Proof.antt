@@ -1,5 +1,4 @@
 -- A number and the comma behind it. Assumes nothing.
-use mathlib.Core.Path.{refl}
 use native.Mathlib.Omega.{arith}
 use lib.ListN.{getD}
 use Rattle.answer.specs.Rows.{rowCells}
@@ -36,7 +35,7 @@ same-length c = search needs
 returns : tie.Need-returns
 returns c =
     let read = c .before .before .before .before .cell .ensures in
-    wrote-number read refl (slice-write-out c) (c .before .before .write .ensures)
+    wrote-number read (omega arith) (slice-write-out c) (c .before .before .write .ensures)
 
 pub write-number-spec : {M : Type 1} → statement M
 write-number-spec =

@@ -12,7 +12,8 @@ use Rattle.answer.proofs.writing.write_row.Tie as tie
 write-ids-requires : tie.Need-write-ids-requires
 write-ids-requires c κs =
     let start = c .before .before .before in
-    (start .pre .0, omega (arith, line-parts-length (rowAt (start .args .cells .now) (start .args .i))))
+    let parts = line-parts-length (rowAt (start .args .cells .now) (start .args .i)) in
+    (start .pre .0, omega (arith, parts))
 
 sub-write-test : tie.Need-sub-write-test
 sub-write-test c =
@@ -30,7 +31,8 @@ part-write-test-end c = search needs
 write-test-requires : tie.Need-write-test-requires
 write-test-requires c κs =
     let start = c .before .before .before .before .before .before .before in
-    (start .pre .0, (start .pre .1 .0, rw (rest-lent, length-drop) (omega (arith, line-parts-length (rowAt (start .args .cells .now) (start .args .i))))))
+    let parts = line-parts-length (rowAt (start .args .cells .now) (start .args .i)) in
+    (start .pre .0, (start .pre .1 .0, rw (rest-lent, length-drop) (omega (arith, parts))))
 
 add-at : tie.Need-add-at
 add-at c =
@@ -53,7 +55,8 @@ part-write-schedule-end c = search needs
 write-schedule-requires : tie.Need-write-schedule-requires
 write-schedule-requires c κs =
     let start = c .before .before .before .before .before .before .before .before .before .before .before in
-    (start .pre .0, (start .pre .1 .0, rw (rest-lent, length-drop) (omega (arith, line-parts-length (rowAt (start .args .cells .now) (start .args .i))))))
+    let parts = line-parts-length (rowAt (start .args .cells .now) (start .args .i)) in
+    (start .pre .0, (start .pre .1 .0, rw (rest-lent, length-drop) (omega (arith, parts))))
 
 add-at-2 : tie.Need-add-at-2
 add-at-2 c =
@@ -67,7 +70,10 @@ returns : tie.Need-returns
 returns c =
     let start = c .before .before .before .before .before .before .before .before .before .before .before .before .before .before .args in
     rw (line-parts (rowAt (start .cells .now) (start .i)))
-    (wrote-next (wrote-next (c .before .before .before .before .before .before .before .before .before .before .write-ids .ensures) (c .before .before .before .before .before .before .write-test .ensures)) (c .before .before .write-schedule .ensures))
+    (wrote-next
+    (wrote-next (c .before .before .before .before .before .before .before .before .before .before .write-ids .ensures)
+    (c .before .before .before .before .before .before .write-test .ensures))
+    (c .before .before .write-schedule .ensures))
 
 pub write-row-spec : {M : Type 1} → statement M
 write-row-spec =

@@ -18,10 +18,14 @@ loop-holds : tie.Need-loop-holds Inv-loop μ-loop
 loop-holds c = writing-none _ _ _
 
 sub-write-row : tie.Need-sub-write-row Inv-loop μ-loop
-sub-write-row c = omega (arith, writing-room _ _ _ (c .before .before .before .before .pre .1 .1) (omega arith) (c .before .loop .inv))
+sub-write-row c =
+    let start = c .before .before .before .before .pre in
+    omega (arith, writing-room _ _ _ (start .1 .1) (omega arith) (c .before .loop .inv))
 
 part-write-row-start : tie.Need-part-write-row-start Inv-loop μ-loop
-part-write-row-start c = omega (arith, writing-room _ _ _ (c .before .before .before .before .pre .1 .1) (omega arith) (c .before .loop .inv))
+part-write-row-start c =
+    let start = c .before .before .before .before .pre in
+    omega (arith, writing-room _ _ _ (start .1 .1) (omega arith) (c .before .loop .inv))
 
 part-write-row-end : tie.Need-part-write-row-end Inv-loop μ-loop
 part-write-row-end c = omega arith
@@ -31,10 +35,14 @@ write-row-requires c κs =
     let start = c .before .before .before .before .before .pre in
     let now = c .before .before .loop in
     let room = writing-room _ _ _ (start .1 .1) (omega arith) (now .inv) in
-    (omega arith, (lettered-at _ _ (now .i) (omega arith) (start .1 .0), rw (rest-lent, length-drop) (omega (arith, room))))
+    let letters = lettered-at _ _ (now .i) (omega arith) (start .1 .0) in
+    (omega arith, (letters, rw (rest-lent, length-drop) (omega (arith, room))))
 
 add-at : tie.Need-add-at Inv-loop μ-loop
-add-at c = omega (arith, writing-room _ _ _ (c .before .before .before .before .before .before .before .before .pre .1 .1) (omega arith) (c .before .before .before .before .before .loop .inv), c .before .before .write-row .ensures .counted)
+add-at c =
+    let start = c .before .before .before .before .before .before .before .before .pre in
+    let now = c .before .before .before .before .before .loop in
+    omega (arith, writing-room _ _ _ (start .1 .1) (omega arith) (now .inv), c .before .before .write-row .ensures .counted)
 
 add-i : tie.Need-add-i Inv-loop μ-loop
 add-i c = omega arith
@@ -43,7 +51,10 @@ loop-less : tie.Need-loop-less Inv-loop μ-loop
 loop-less c = omega arith
 
 loop-again : tie.Need-loop-again Inv-loop μ-loop
-loop-again c = writing-next _ _ _ (c .before .before .before .before .before .before .before .before .pre .1 .1) (omega arith) (c .before .before .before .before .before .loop .inv) (c .before .before .write-row .ensures)
+loop-again c =
+    let start = c .before .before .before .before .before .before .before .before .pre in
+    let now = c .before .before .before .before .before .loop in
+    writing-next _ _ _ (start .1 .1) (omega arith) (now .inv) (c .before .before .write-row .ensures)
 
 same-length : tie.Need-same-length Inv-loop μ-loop
 same-length c = c .before .loop .inv .same-length

@@ -13,7 +13,8 @@ use Rattle.answer.proofs.writing.write_schedule.Tie as tie
 write-number-requires : tie.Need-write-number-requires
 write-number-requires c κs =
     let start = c .before .before .before in
-    (start .pre .0, (omega arith, omega (arith, schedule-length (rowAt (start .args .cells .now) (start .args .i)))))
+    let parts = schedule-length (rowAt (start .args .cells .now) (start .args .i)) in
+    (start .pre .0, (omega arith, omega (arith, parts)))
 
 sub-write-letter : tie.Need-sub-write-letter
 sub-write-letter c =
@@ -31,7 +32,8 @@ part-write-letter-end c = search needs
 write-letter-requires : tie.Need-write-letter-requires
 write-letter-requires c κs =
     let start = c .before .before .before .before .before .before .before in
-    (start .pre .0, (omega arith, (start .pre .1 .0 .kind, rw (rest-lent, length-drop) (omega (arith, schedule-length (rowAt (start .args .cells .now) (start .args .i)))))))
+    let parts = schedule-length (rowAt (start .args .cells .now) (start .args .i)) in
+    (start .pre .0, (omega arith, (start .pre .1 .0 .kind, rw (rest-lent, length-drop) (omega (arith, parts)))))
 
 add-at : tie.Need-add-at
 add-at c =
@@ -54,7 +56,8 @@ part-write-last-end c = search needs
 write-last-requires : tie.Need-write-last-requires
 write-last-requires c κs =
     let start = c .before .before .before .before .before .before .before .before .before .before .before in
-    (start .pre .0, (omega arith, rw (rest-lent, length-drop) (omega (arith, schedule-length (rowAt (start .args .cells .now) (start .args .i))))))
+    let parts = schedule-length (rowAt (start .args .cells .now) (start .args .i)) in
+    (start .pre .0, (omega arith, rw (rest-lent, length-drop) (omega (arith, parts))))
 
 add-at-2 : tie.Need-add-at-2
 add-at-2 c =
@@ -67,7 +70,10 @@ same-length c = search needs
 returns : tie.Need-returns
 unfolding schedulePart
 returns c =
-    wrote-next (wrote-next (c .before .before .before .before .before .before .before .before .before .before .write-number .ensures) (c .before .before .before .before .before .before .write-letter .ensures)) (c .before .before .write-last .ensures)
+    wrote-next
+    (wrote-next (c .before .before .before .before .before .before .before .before .before .before .write-number .ensures)
+    (c .before .before .before .before .before .before .write-letter .ensures))
+    (c .before .before .write-last .ensures)
 
 pub write-schedule-spec : {M : Type 1} → statement M
 write-schedule-spec =

@@ -13,7 +13,8 @@ use Rattle.answer.proofs.writing.write_test.Tie as tie
 write-letter-requires : tie.Need-write-letter-requires
 write-letter-requires c κs =
     let start = c .before .before .before in
-    (start .pre .0, (omega arith, (start .pre .1 .0 .verdict, omega (arith, test-length (rowAt (start .args .cells .now) (start .args .i))))))
+    let parts = test-length (rowAt (start .args .cells .now) (start .args .i)) in
+    (start .pre .0, (omega arith, (start .pre .1 .0 .verdict, omega (arith, parts))))
 
 sub-write-number : tie.Need-sub-write-number
 sub-write-number c =
@@ -31,7 +32,8 @@ part-write-number-end c = search needs
 write-number-requires : tie.Need-write-number-requires
 write-number-requires c κs =
     let start = c .before .before .before .before .before .before .before in
-    (start .pre .0, (omega arith, rw (rest-lent, length-drop) (omega (arith, test-length (rowAt (start .args .cells .now) (start .args .i))))))
+    let parts = test-length (rowAt (start .args .cells .now) (start .args .i)) in
+    (start .pre .0, (omega arith, rw (rest-lent, length-drop) (omega (arith, parts))))
 
 add-at : tie.Need-add-at
 add-at c =

@@ -1,0 +1,80 @@
+// The rows of the cases, seven cells a row: unit, supplier, verdict, left, schedule, kind, cost.
+
+// The letters of verdicts and kinds.
+const U: u64 = b'U' as u64;
+
+const P: u64 = b'P' as u64;
+
+const F: u64 = b'F' as u64;
+
+const M: u64 = b'M' as u64;
+
+const C: u64 = b'C' as u64;
+
+const WIDTH: usize = 7;
+
+// The cells of 64 rows.
+const CELLS: usize = 448;
+
+// The rows of document 01's example.
+pub const STARRED: [u64; 28] = [
+    11,
+    1,
+    F,
+    0,
+    2,
+    C,
+    1030000,
+    12,
+    2,
+    F,
+    0,
+    1,
+    M,
+    330000,
+    13,
+    3,
+    F,
+    0,
+    1,
+    C,
+    890000,
+    14,
+    4,
+    F,
+    5000000,
+    1,
+    M,
+    500000,
+];
+
+// Every numeral of one digit.
+pub const NARROWEST: [u64; 7] = [1, 1, U, 0, 1, M, 0];
+
+// Every numeral as long as a cell can hold.
+pub const LARGEST: [u64; 7] = [
+    18446744073709551615,
+    18446744073709551615,
+    P,
+    18446744073709551615,
+    18446744073709551615,
+    C,
+    18446744073709551615,
+];
+
+// A verdict that is no byte.
+pub const NO_LETTER: [u64; 7] = [1, 1, 256, 0, 1, M, 0];
+
+// Every field as wide as its range permits.
+const WIDEST: [u64; WIDTH] = [9999, 999, F, 999_999_999_999, 99, C, 999_999_999_999];
+
+// As many such rows as an answer can have.
+pub fn widest() -> [u64; CELLS] {
+    let mut cells = [0u64; CELLS];
+    let mut k = 0;
+    while k < CELLS {
+        cells[k] = WIDEST[k % WIDTH];
+        k += 1;
+    }
+    cells
+}

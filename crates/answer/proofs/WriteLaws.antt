@@ -49,13 +49,14 @@ wrote-letter {old} {b} e f h =
     rw (← e, f) (wrote-byte COMMA (omega (arith, length-set old 0 b)) first)
 
 pub wrote-last :
-    {old mid : List ℕ} {m n x cr lf : ℕ} → n ≡ x → cr ≡ 0x0D → lf ≡ 0x0A → m + 1 < length mid → Wrote (digits n) m old mid →
-    Wrote (lastField x) (m + 2) old (set (set mid m cr) (m + 1) lf)
+    {old mid : List ℕ} {m n x cr lf count : ℕ} →
+    n ≡ x → cr ≡ 0x0D → lf ≡ 0x0A → count ≡ m + 2 → m + 1 < length mid → Wrote (digits n) m old mid →
+    Wrote (lastField x) count old (set (set mid m cr) (m + 1) lf)
 unfolding lastField
-wrote-last {mid} {m} {n} {cr} {lf} e f g h w =
-    let count : m + 1 + 1 ≡ m + 2 = omega arith in
+wrote-last {mid} {m} {n} {cr} {lf} {count} e f g k h w =
     let both = wrote-byte lf (omega (arith, length-set mid m cr)) (wrote-byte cr (omega arith) w) in
-    rw (← e, ← f, ← g) (rw (count, append-assoc (digits n) (cr ∷ []) (lf ∷ [])) at both)
+    let same : m + 1 + 1 ≡ count = omega arith in
+    rw (← e, ← f, ← g) (rw (same, append-assoc (digits n) (cr ∷ []) (lf ∷ [])) at both)
 
 -- what is written fits
 pub number-room :

@@ -4,6 +4,7 @@ ghost use Prim.Native.Nat.{_+_, _*_, _≤_};
 ghost use lib.ListN.{length};
 ghost use Rattle.base.specs.Search.{All};
 ghost use Rattle.judge.specs.Answer.{answerRows};
+ghost use Rattle.answer.specs.Longest.{longest as Longest·longest};
 ghost use Rattle.answer.specs.Rows.{Lettered};
 use libc::STDOUT_FILENO;
 
@@ -51,7 +52,7 @@ fn longest() {
 fn run(cells: &[u64], n: usize, room: usize)
     requires { ⌜ n * 7 ≤ length (now cells) ⌝ }
     requires { ⌜ n ≤ 64 ⌝ }
-    requires { ⌜ room ≤ 2799 ⌝ }
+    requires { ⌜ room ≤ Longest·longest ⌝ }
 {
     if !letters::lettered(cells, n) {
         print(b"no letters\n");

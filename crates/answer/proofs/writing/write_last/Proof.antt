@@ -48,7 +48,7 @@ returns : tie.Need-returns
 returns c =
     let read = c .before .before .before .before .cell .ensures in
     let fits = last-room read (c .before .before .write .ensures) (c .before .before .before .before .before .before .before .pre .1 .1) in
-    wrote-last read (omega arith) (omega arith) (omega (arith, fits)) (c .before .before .write .ensures)
+    wrote-last read (omega arith) (omega arith) (omega arith) (omega (arith, fits)) (c .before .before .write .ensures)
 
 pub write-last-spec : {M : Type 1} → statement M
 write-last-spec =

@@ -37,7 +37,7 @@ module _ (c : ConstraintRow) (supply : List SupplyRow) (scheduled : List Schedul
   rows-lettered [] = all-none
   rows-lettered (u ∷ us) = all-more (row-lettered u) (rows-lettered us)
 
-  decided-lettered : All Lettered (decided c supply scheduled running)
+  pub decided-lettered : All Lettered (decided c supply scheduled running)
   unfolding decided
   decided-lettered = rows-lettered (units supply)
 

@@ -16,7 +16,8 @@ use Rattle.market.proofs.ListingLaws.{Filling}
 use Rattle.tables.specs.declared.files.Kind.{Kind}
 use Rattle.judge.specs.Day.{RunningUnit, runs, kindRunning, wouldRun}
 use Rattle.capping.specs.View.{missing, viewOf}
-use Rattle.capping.specs.Asking.{kindCell, KindsLaid, newcomers}
+use Rattle.decision.specs.Deciding.{kindCell}
+use Rattle.capping.specs.Asking.{KindsLaid, newcomers}
 use Rattle.capping.specs.Releasing.{placeOf}
 use Rattle.capping.specs.declared.day.Day.{Day}
 use Rattle.capping.proofs.ViewLaws.{unused, counted, first-at}

@@ -5,6 +5,7 @@ mod committing;
 mod day;
 mod forming;
 mod releasing;
+mod studying;
 
 pub use check::capping_check;
 pub use day::Day;
@@ -12,3 +13,5 @@ pub use day::LastHour;
 pub use day::Running;
 pub use releasing::Release;
 pub use releasing::Released;
+pub use studying::Studied;
+pub use studying::Study;

@@ -5,7 +5,7 @@ use borrow.Author.Needs.{needs}
 use Rattle.market.proofs.ListingLaws.{Filling, filling-none, filling-next}
 use Rattle.judge.specs.Day.{kindRunning}
 use Rattle.capping.specs.View.{viewOf}
-use Rattle.capping.specs.Asking.{kindCell}
+use Rattle.decision.specs.Deciding.{kindCell}
 use Rattle.capping.proofs.AskingLaws.{kinds-laid}
 use Rattle.capping.proofs.day.Day.lay_kinds.Statement.{statement}
 use Rattle.capping.proofs.day.Day.lay_kinds.Tie as tie

@@ -3,15 +3,14 @@
 // units rise, so they are merged in one pass. Assumes that the day is well-formed and that what would
 // run fits in it.
 ghost use mathlib.Core.Path.{_≡_};
-ghost use mathlib.Core.Bool.{true, _||_};
+ghost use mathlib.Core.Bool.{true};
 ghost use Prim.Native.Nat.{_+_, _*_, _≤_, _<_};
-ghost use lib.Dec.{ltb};
 ghost use lib.ListN.{length};
 ghost use Rattle.tables.specs.Rows.{kindOf};
 ghost use Rattle.judge.specs.Day.{dayFormed, committed};
 ghost use Rattle.judge.specs.Study.{chosen as Study·chosen};
 ghost use Rattle.capping.specs.View.{unitOf, viewOf};
-ghost use Rattle.capping.specs.Committing.{answerAt, choices, Fits, Turns};
+ghost use Rattle.capping.specs.Committing.{answerAt, choices, Fits, anyLeft, Turns};
 use crate::day::Day;
 use crate::day::LastHour;
 use crate::day::Running;
@@ -110,7 +109,7 @@ impl Day {
 
 // Whether running units or rows are left.
 fn is_left(i: usize, count: usize, j: usize, n: usize) -> bool
-    ensures { λ r. ⌜ r ≡ (ltb i count || ltb j n) ⌝ }
+    ensures { λ r. ⌜ r ≡ anyLeft i count j n ⌝ }
 {
     if i < count {
         return true;

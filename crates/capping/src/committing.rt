@@ -6,7 +6,6 @@ ghost use mathlib.Core.Path.{_≡_};
 ghost use mathlib.Core.Bool.{true};
 ghost use Prim.Native.Nat.{_+_, _*_, _≤_, _<_};
 ghost use lib.ListN.{length};
-ghost use Rattle.tables.specs.Rows.{kindOf};
 ghost use Rattle.judge.specs.Day.{dayFormed, committed};
 ghost use Rattle.judge.specs.Study.{chosen as Study·chosen};
 ghost use Rattle.capping.specs.View.{unitOf, viewOf};
@@ -14,7 +13,7 @@ ghost use Rattle.capping.specs.Committing.{answerAt, choices, Fits, anyL
 use crate::day::Day;
 use crate::day::LastHour;
 use crate::day::Running;
-use tables::Kind;
+use crate::kinds::kind_of;
 
 // The cells of an answer's row, and those of them that the day keeps.
 const WIDTH: usize = 7;
@@ -24,9 +23,6 @@ const UNIT: usize = 0;
 const SCHEDULE: usize = 4;
 
 const KIND: usize = 5;
-
-// The letter of a market-based schedule.
-const M: u64 = 0x4D;
 
 // The unit that is next in the day, and how many units of the day and how many rows it uses up.
 struct Turn {
@@ -128,10 +124,4 @@ fn chosen(rows: &[u64], j: usize) -> Running
         schedule: rows[at + SCHEDULE],
         kind: kind_of(rows[at + KIND]),
     }
-}
-
-fn kind_of(letter: u64) -> Kind
-    ensures { λ r. ⌜ r ≡ kindOf letter ⌝ }
-{
-    if letter == M { Kind::M } else { Kind::C }
 }

@@ -3,6 +3,7 @@ mod asking;
 mod committing;
 mod day;
 mod forming;
+mod kinds;
 mod releasing;
 
 pub use day::Day;

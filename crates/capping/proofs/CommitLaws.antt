@@ -19,7 +19,7 @@ use Rattle.judge.specs.Day.{RunningUnit, mostRunning, dayFormed, putAll, commit
 use Rattle.judge.specs.Study.{chosen}
 use Rattle.judge.proofs.DayLaws.{unit, order-rising, formed, put-all-length, merge-before, merge-at, merge-behind, merge-alone}
 use Rattle.capping.specs.View.{unitOf, firstUnits, viewOf}
-use Rattle.capping.specs.Committing.{answerAt, choices, answerUnits, Fits, Turns}
+use Rattle.capping.specs.Committing.{answerAt, choices, answerUnits, Fits, anyLeft, Turns}
 use Rattle.capping.specs.declared.day.Day.{Day}
 use Rattle.capping.specs.declared.day.LastHour.the-variants.{At}
 use Rattle.capping.specs.declared.day.Running.{Running}
@@ -252,14 +252,16 @@ module _ (cs rs : List RunningUnit) (out : List Running) (k i j : ℕ) (m : Merg
       ∙ sym (m .merged ∙ rw (drop-end i rs h, drop-end j cs l) (append-nil (map unitOf (take k out))))
 
 -- whether something is left
-pub some-left : (i count j n : ℕ) → (ltb i count || ltb j n) ≡ true → i ≤ count → j ≤ n → i + j < count + n
+pub some-left : (i count j n : ℕ) → anyLeft i count j n ≡ true → i ≤ count → j ≤ n → i + j < count + n
+unfolding anyLeft
 some-left i count j n e h k = go (ltb i count) refl e
   where
     go : (t : Bool) → ltb i count ≡ t → (t || ltb j n) ≡ true → i + j < count + n
     go true f g = omega (arith, ltb-true i count f)
     go false f g = omega (arith, ltb-true j n g)
 
-pub none-left : (i count j n : ℕ) → (ltb i count || ltb j n) ≡ false → (count ≤ i) × (n ≤ j)
+pub none-left : (i count j n : ℕ) → anyLeft i count j n ≡ false → (count ≤ i) × (n ≤ j)
+unfolding anyLeft
 none-left i count j n e =
     (ltb-false i count (or-fst (ltb i count) (ltb j n) e), ltb-false j n (or-snd (ltb i count) (ltb j n) e))
 

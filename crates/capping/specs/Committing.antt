@@ -3,7 +3,9 @@
 -- the merge. Assumes nothing.
 use Prim.Native.Nat.{ℕ, _+_, _*_, _≤_}
 use mathlib.Core.Path.{_≡_}
+use mathlib.Core.Bool.{Bool, _||_}
 use mathlib.Core.List.{List, _∷_, map}
+use lib.Dec.{ltb}
 use lib.ListN.{length, take, drop}
 use Rattle.base.specs.Rising.{RisingFrom}
 use Rattle.judge.specs.Answer.{AnswerRow, answerWidth, answerRow, answerRows}
@@ -28,6 +30,10 @@ pub record Fits (n : ℕ) (cells : List ℕ) (running : List RunningUnit) : Type
   pub room : n * answerWidth ≤ length cells
   pub rising : RisingFrom 0 (answerUnits n cells)
   pub few : wouldRun (answerUnits n cells) running ≤ mostRunning
+
+-- whether running units or rows are left, of which i and j are used up
+unfoldable pub anyLeft : ℕ → ℕ → ℕ → ℕ → Bool
+anyLeft i count j n = ltb i count || ltb j n
 
 -- a turn: the next of what i running units and j rows leave to be merged
 pub record Turns (cs rs : List RunningUnit) (i j : ℕ) (t : Turn) : Type 0 where

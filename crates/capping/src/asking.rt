@@ -11,15 +11,13 @@ ghost use Rattle.capping.specs.Asking.{KindsLaid, newcomers};
 ghost use Rattle.decision.specs.Deciding.{kindCell};
 use crate::day::Day;
 use crate::day::LastHour;
+use crate::kinds::C;
+use crate::kinds::M;
 use commitment::DayKind;
 use tables::Kind;
 
-// The cell of a unit that isn't running, and the letters of the kinds.
+// The cell of a unit that isn't running.
 const NOT_RUNNING: u64 = 0;
-
-const M: u64 = 0x4D;
-
-const C: u64 = 0x43;
 
 impl Day {
     // Whether an hour is earlier than that of the last accepted study.

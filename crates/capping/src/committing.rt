@@ -3,19 +3,17 @@
 // units rise, so they are merged in one pass. Assumes that the day is well-formed and that what would
 // run fits in it.
 ghost use mathlib.Core.Path.{_≡_};
-ghost use mathlib.Core.Bool.{true, _||_};
+ghost use mathlib.Core.Bool.{true};
 ghost use Prim.Native.Nat.{_+_, _*_, _≤_, _<_};
-ghost use lib.Dec.{ltb};
 ghost use lib.ListN.{length};
-ghost use Rattle.tables.specs.Rows.{kindOf};
 ghost use Rattle.judge.specs.Day.{dayFormed, committed};
 ghost use Rattle.judge.specs.Study.{chosen as Study·chosen};
 ghost use Rattle.capping.specs.View.{unitOf, viewOf};
-ghost use Rattle.capping.specs.Committing.{answerAt, choices, Fits, Turns};
+ghost use Rattle.capping.specs.Committing.{answerAt, choices, Fits, anyLeft, Turns};
 use crate::day::Day;
 use crate::day::LastHour;
 use crate::day::Running;
-use tables::Kind;
+use crate::kinds::kind_of;
 
 // The cells of an answer's row, and those of them that the day keeps.
 const WIDTH: usize = 7;
@@ -25,9 +23,6 @@ const UNIT: usize = 0;
 const SCHEDULE: usize = 4;
 
 const KIND: usize = 5;
-
-// The letter of a market-based schedule.
-const M: u64 = 0x4D;
 
 // The unit that is next in the day, and how many units of the day and how many rows it uses up.
 struct Turn {
@@ -110,7 +105,7 @@ impl Day {
 
 // Whether running units or rows are left.
 fn is_left(i: usize, count: usize, j: usize, n: usize) -> bool
-    ensures { λ r. ⌜ r ≡ (ltb i count || ltb j n) ⌝ }
+    ensures { λ r. ⌜ r ≡ anyLeft i count j n ⌝ }
 {
     if i < count {
         return true;
@@ -129,10 +124,4 @@ fn chosen(rows: &[u64], j: usize) -> Running
         schedule: rows[at + SCHEDULE],
         kind: kind_of(rows[at + KIND]),
     }
-}
-
-fn kind_of(letter: u64) -> Kind
-    ensures { λ r. ⌜ r ≡ kindOf letter ⌝ }
-{
-    if letter == M { Kind::M } else { Kind::C }
 }

@@ -4,6 +4,7 @@ mod check;
 mod committing;
 mod day;
 mod forming;
+mod kinds;
 mod releasing;
 mod studying;
 

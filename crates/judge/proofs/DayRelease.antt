@@ -92,6 +92,10 @@ find-other u v (r ∷ rs) n = go (eqb (r .unit) u) refl (find-other u v rs n)
         rw (ne-eqb (r .unit) v (λ f. n (sym f ∙ same))) h
     go false e h = rw h
 
+keeps-hour : (d : DayView) (u : ℕ) → without u d .hour ≡ d .hour
+unfolding without
+keeps-hour d u = refl
+
 -- What a release makes of a day, by its units: the one doesn't run any more, every other is as it was, and so is the hour.
 pub record Frees (u : ℕ) (d after : DayView) : Type 0 where
   pub same-hour : after .hour ≡ d .hour
@@ -105,7 +109,7 @@ unfolding released without
 frees d u f e =
     rw (is-done d u f e)
     (record {
-      same-hour = refl;
+      same-hour = keeps-hour d u;
       gone = find-gone u (d .running);
       others-stay = λ (v : ℕ) (n : v ≡ u → ⊥). find-other u v (d .running) n;
       one-less = others-less u (d .running) e;

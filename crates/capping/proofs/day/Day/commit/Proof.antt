@@ -43,8 +43,8 @@ turn-requires c κs =
     let loop = c .before .before .loop in
     let units = counted (start .args .self) in
     let rows = choices-length (start .args .n) (start .args .rows .now) in
-    let left = some-left (loop .i) (start .args .self .count) (loop .j) (start .args .n) (sym (c .before .is-left .ensures) ∙ c .if1 .taken) (omega arith) (omega arith) in
-    (start .pre .0, (start .pre .1, (omega arith, omega arith, left)))
+    let left = some-left _ _ _ _ (sym (c .before .is-left .ensures) ∙ c .if1 .taken) (omega arith) (omega arith) in
+    (start .pre .0, (start .pre .1, (omega arith, omega arith, omega arith)))
 
 mul-running : tie.Need-mul-running Inv-loop μ-loop
 mul-running c = omega (arith, merging-room _ _ _ _ _ _ (c .before .before .before .before .loop .inv) _ (c .before .turn .ensures))
@@ -83,7 +83,7 @@ returns c =
     let loop = c .before .before .loop in
     let units = counted (start .args .self) in
     let rows = choices-length (start .args .n) (start .args .rows .now) in
-    let done = none-left (loop .i) (start .args .self .count) (loop .j) (start .args .n) (sym (c .before .is-left .ensures) ∙ c .if1 .left) in
+    let done = none-left _ _ _ _ (sym (c .before .is-left .ensures) ∙ c .if1 .left) in
     merged-day (start .args .self) _ (loop .count) (choices (start .args .n) (start .args .rows .now)) (loop .running) (merging-over _ _ _ _ _ _ (loop .inv) (omega arith) (omega arith))
 
 pub commit-spec : {M : Type 1} → statement M

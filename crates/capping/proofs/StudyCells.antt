@@ -20,8 +20,13 @@ use Rattle.base.proofs.RisingLaws.{inserted-rising, inserted-new, inserted-ther
 use Rattle.tables.specs.Ranges.{PermittedConstraint, PermittedSupply, PermittedSchedule}
 use Rattle.tables.specs.Rows.{ConstraintRow, SupplyRow, ScheduleRow, constraintRow, supplyRows, scheduleRows}
 use Rattle.tables.specs.Table.{columnAt, allColumns, constraintColumns, supplyColumns, schedulesColumns}
-use Rattle.filing.specs.Filed.{FilesKept}
-use Rattle.filing.specs.Filing.{constraintOf, supplyOf, schedulesOf}
+use Rattle.tables.specs.declared.files.Refusal.{Refusal}
+use Rattle.filing.specs.Filed.{sizes, filed, filedUnless, FilesKept, FilesFiled}
+use Rattle.filing.specs.Filing.{constraintOf, supplyOf, schedulesOf, filingRefusal}
+use Rattle.filing.specs.declared.files.Filed.{Filed}
+use Rattle.filing.specs.declared.files.Filed.the-variants.{Rows, Refused}
+use Rattle.filing.specs.declared.files.Sizes.{Sizes}
+use Rattle.filing.proofs.KeptLaws.{kept}
 use Rattle.filing.specs.Kept.{Kept}
 use Rattle.filing.specs.Supply.{units, suppliers, suppliersFrom, mostUnits}
 use Rattle.filing.proofs.UnitLaws.{units-rising, among-units}
@@ -106,7 +111,7 @@ some-units (r ∷ rows) (all-more p ps) = all-more (p .some-unit) (some-units ro
 
 -- the cells of files that are accepted
 module _
-    (c s h constraint supply schedules us : List ℕ) (kept : Kept c s h) (cells : FilesKept c s h constraint supply schedules us)
+    (c s h constraint supply schedules us : List ℕ) (keeps : Kept c s h) (cells : FilesKept c s h constraint supply schedules us)
   where
     abbrev n : ℕ
     n = length (supplyOf s)
@@ -116,34 +121,75 @@ module _
         let rows = cells .rows-kept .supply-kept .rows in
         record {
           room = a;
-          permitted = rw (cells .constraint-kept) (kept .constraint-permitted);
+          permitted = rw (cells .constraint-kept) (keeps .constraint-permitted);
           rows =
               record {
-                inside = omega (arith, kept .supply-few);
-                few = kept .supply-few;
-                permitted = λ r m. supply-permits r (all-mem (kept .supply-permitted) (rw rows at m));
+                inside = omega (arith, keeps .supply-few);
+                few = keeps .supply-few;
+                permitted = λ r m. supply-permits r (all-mem (keeps .supply-permitted) (rw rows at m));
               };
-          few-parties = rw rows (omega (arith, parties-count (supplyOf s) (kept .supply-permitted), kept .suppliers-few));
+          few-parties = rw rows (omega (arith, parties-count (supplyOf s) (keeps .supply-permitted), keeps .suppliers-few));
         }
 
     pub unit-rows : 9216 ≤ length schedules → UnitRows (length (schedulesOf h)) schedules
     unit-rows a =
         record {
-          few = kept .schedules-few;
-          room = omega (arith, kept .schedules-few);
-          ranged = λ r m. schedule-permits r (all-mem (kept .schedules-permitted) (rw (cells .rows-kept .schedules-kept) at m));
+          few = keeps .schedules-few;
+          room = omega (arith, keeps .schedules-few);
+          ranged = λ r m. schedule-permits r (all-mem (keeps .schedules-permitted) (rw (cells .rows-kept .schedules-kept) at m));
         }
 
     pub units-of : 65 ≤ length us → UnitsOf (length (units (supplyOf s))) (supplyRows n supply) us
     units-of a =
         rw (cells .rows-kept .supply-kept .rows)
         (record {
-          few = kept .units-few;
-          there = omega (arith, kept .units-few);
+          few = keeps .units-few;
+          there = omega (arith, keeps .units-few);
           counted = refl;
           listed = cells .rows-kept .supply-kept .listed;
-          rising = units-rising (some-units (supplyOf s) (kept .supply-permitted));
+          rising = units-rising (some-units (supplyOf s) (keeps .supply-permitted));
         })
+
+-- the files, as filing answered
+module _ (c s h : List ℕ) {r : Filed} (answers : r ≡ filed c s h) where
+  pub was-filed : (z : Sizes) → r ≡ Rows z → (filingRefusal c s h ≡ none) × (z ≡ sizes s h)
+  unfolding filed
+  was-filed z e = go (filingRefusal c s h) refl (sym answers ∙ e)
+    where
+      go : (o : Option Refusal) → filingRefusal c s h ≡ o → filedUnless o s h ≡ Rows z → (filingRefusal c s h ≡ none) × (z ≡ sizes s h)
+      go none f g = (f, cc)
+      go (some x) f g = let y : _≡_ {A = ℕ} 0 1 = cc in absurd (omega arith)
+
+  pub was-refused : (x : Refusal) → r ≡ Refused x → filingRefusal c s h ≡ some x
+  unfolding filed
+  was-refused x e = go (filingRefusal c s h) refl (sym answers ∙ e)
+    where
+      go : (o : Option Refusal) → filingRefusal c s h ≡ o → filedUnless o s h ≡ Refused x → filingRefusal c s h ≡ some x
+      go none f g = let y : _≡_ {A = ℕ} 0 1 = cc in absurd (omega arith)
+      go (some y) f g = cc
+
+module _ (c s h constraint supply schedules us : List ℕ) {r : Filed} (files : FilesFiled c s h constraint supply schedules us r) (z : Sizes) (e : r ≡ Rows z) where
+  pub filed-market : 3 ≤ length constraint → 1280 ≤ length supply → MarketCells constraint (z .supply) supply
+  filed-market a b =
+      let (ok, sized) = was-filed c s h (files .answers) z e in
+      rw sized (market-cells c s h constraint supply schedules us (kept c s h ok) (files .kept ok) a b)
+
+  pub filed-schedules : 9216 ≤ length schedules → UnitRows (z .schedules) schedules
+  filed-schedules a =
+      let (ok, sized) = was-filed c s h (files .answers) z e in
+      rw sized (unit-rows c s h constraint supply schedules us (kept c s h ok) (files .kept ok) a)
+
+  pub filed-units : 65 ≤ length us → UnitsOf (z .units) (supplyRows (z .supply) supply) us
+  filed-units a =
+      let (ok, sized) = was-filed c s h (files .answers) z e in
+      rw sized (units-of c s h constraint supply schedules us (kept c s h ok) (files .kept ok) a)
+
+  pub filed-rows :
+      (constraintRow constraint ≡ constraintOf c) × (supplyRows (z .supply) supply ≡ supplyOf s) × (scheduleRows (z .schedules) schedules ≡ schedulesOf h)
+  filed-rows =
+      let (ok, sized) = was-filed c s h (files .answers) z e in
+      let cells = files .kept ok in
+      rw sized (cells .constraint-kept, cells .rows-kept .supply-kept .rows, cells .rows-kept .schedules-kept)
 
 among-getD : (l : List ℕ) (i : ℕ) → i < length l → among (getD l i 0) l ≡ true
 unfolding among
@@ -210,6 +256,7 @@ module _ (k : ℕ) (rows : List SupplyRow) (us : List ℕ) (of-supply : UnitsOf 
             (rows-units c rows scheduled running (units rows) old)
 
         pub decided-rows : k * 7 ≤ length new → RowsDecided k us new
+        unfolding decided
         decided-rows room =
             record {
               few = of-supply .few;

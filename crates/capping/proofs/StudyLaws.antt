@@ -99,13 +99,13 @@ module _ (day : Day) (h : ℕ) (us : List ℕ) (rows : List AnswerRow) (buffer :
   unfolding decidedStudied crowding
   decided-crowded e r g =
       comes-refused day h rows buffer _ (stateRefused 22) r
-      (first-here _ _ _ (unless-broken (leb (wouldRun us (viewOf day .running)) mostRunning) 22 (lt-leb _ _ (omega (arith, counted)))))
+      (first-here _ _ _ (unless-broken (leb (wouldRun us (viewOf day .running)) mostRunning) 22 (lt-leb (wouldRun us (viewOf day .running)) mostRunning (omega (arith, counted)))))
       g
 
   module _ (few : w ≤ mostRunning) where
     uncrowded : crowding (viewOf day) us ≡ none
     unfolding crowding
-    uncrowded = unless-kept (leb (wouldRun us (viewOf day .running)) mostRunning) 22 (le-leb _ _ (omega (arith, counted)))
+    uncrowded = unless-kept (leb (wouldRun us (viewOf day .running)) mostRunning) 22 (le-leb (wouldRun us (viewOf day .running)) mostRunning (omega (arith, counted)))
 
     module _ (n : ℕ) (long : n ≡ length (answerText rows)) where
       pub decided-cramped :
@@ -115,18 +115,18 @@ module _ (day : Day) (h : ℕ) (us : List ℕ) (rows : List AnswerRow) (buffer :
       decided-cramped e r g =
           comes-refused day h rows buffer _ (stateRefused 10) r
           (first-later _ _ uncrowded
-          ∙ first-here _ _ _ (unless-broken (leb (length (answerText rows)) (length buffer)) 10 (lt-leb _ _ (omega (arith, long)))))
+          ∙ first-here _ _ _ (unless-broken (leb (length (answerText rows)) (length buffer)) 10 (lt-leb (length (answerText rows)) (length buffer) (omega (arith, long)))))
           g
 
       pub decided-written :
           n ≤ length buffer → (after : Day) (new : List ℕ) (count : ℕ) → Wrote (answerText rows) count buffer new →
           viewOf after ≡ committed h (map chosen rows) (viewOf day) →
           Comes day (answerText rows) (decidedStudied (viewOf day) h us rows buffer) new (record { day = after; answer = Written count })
-      unfolding decidedStudied cramped firstOf
+      unfolding decidedStudied cramped
       decided-written e after new count =
           comes-written day h rows buffer _ after new count
           (first-later _ _ uncrowded
-          ∙ first-later _ _ (unless-kept (leb (length (answerText rows)) (length buffer)) 10 (le-leb _ _ (omega (arith, long)))))
+          ∙ first-alone _ ∙ (unless-kept (leb (length (answerText rows)) (length buffer)) 10 (le-leb (length (answerText rows)) (length buffer) (omega (arith, long)))))
 
 -- by the rows of the files: 20, 21
 module _ (day : Day) (c : ConstraintRow) (supply : List SupplyRow) (scheduled : List ScheduleRow) (buffer : List ℕ) where
@@ -165,6 +165,13 @@ module _ (day : Day) (c : ConstraintRow) (supply : List SupplyRow) (scheduled : 
         (λ (o : Option Refusal). outcome (viewOf day) (c .hour) theRows buffer (firstOf (o ∷ cramped theRows (length buffer) ∷ [])))
         (first-later _ _ in-time ∙ first-later _ _ (ap (Option·map (refused 21 Schedules)) f) ∙ first-alone (crowding (viewOf day) (units supply)))
 
+    pub rows-answered :
+        costless (c .hour) supply scheduled (viewOf day .running) ≡ none → (us : List ℕ) → us ≡ units supply →
+        (rows : List AnswerRow) → rows ≡ theRows → (new : List ℕ) (r : Studied) →
+        Comes day (answerText rows) (decidedStudied (viewOf day) (c .hour) us rows buffer) new r →
+        Comes day (answerText theRows) (rowsStudied (viewOf day) c supply scheduled buffer) new r
+    rows-answered f us listed rows decided new r comes = rw (rows-decided f) (rw (listed, decided) at comes)
+
 -- by the files: 24, and what filing refuses
 module _ (day : Day) (c s h buffer : List ℕ) where
   pub ill-formed : dayFormed (viewOf day) ≡ false → (r : Studied) → r ≡ refusing day (stateRefused 24) → Studies day c s h buffer buffer r
@@ -192,6 +199,15 @@ module _ (day : Day) (c s h buffer : List ℕ) where
         outcome (viewOf day) (constraintOf c .hour) (studyRows (viewOf day) c s h) buffer
         (firstOf (o ∷ cramped (studyRows (viewOf day) c s h) (length buffer) ∷ [])))
         (first-later _ _ (unless-kept (dayFormed (viewOf day)) 24 formed) ∙ first-later _ _ e)
+
+    pub files-answered :
+        filingRefusal c s h ≡ none →
+        (cr : ConstraintRow) → cr ≡ constraintOf c → (sr : List SupplyRow) → sr ≡ supplyOf s → (hr : List ScheduleRow) → hr ≡ schedulesOf h →
+        (new : List ℕ) (r : Studied) →
+        Comes day (answerText (decided cr sr hr (viewOf day .running))) (rowsStudied (viewOf day) cr sr hr buffer) new r →
+        Studies day c s h buffer new r
+    unfolding answerFile studyRows
+    files-answered e cr constraint sr supply hr schedules new r comes = rw (filed e) (rw (constraint, supply, schedules) at comes)
 
 -- what was written, where something was
 module _ (d : DayView) (h : ℕ) (rows : List AnswerRow) (old : List ℕ) where

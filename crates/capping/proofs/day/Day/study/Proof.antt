@@ -1,35 +1,31 @@
+-- A well-formed day first; demand 3 from the outcome. Assumes nothing.
+use mathlib.Core.Path.{sym, _∙_}
+use Rattle.capping.proofs.StudyLaws.{ill-formed, answers-right}
 use borrow.Author.Needs.{needs}
 use Rattle.capping.proofs.day.Day.study.Statement.{statement}
 use Rattle.capping.proofs.day.Day.study.Tie as tie
-use Rattle.capping.proofs.day.Day.study.Reads as reads
-use Rattle.capping.proofs.day.Day.study.Lts as lts
-use Rattle.capping.proofs.day.Day.is_formed.Reads as is-formed-reads
-use Rattle.capping.proofs.day.Day.refuse_by_state.Reads as refuse-by-state-reads
-use Rattle.capping.proofs.day.Day.study_files.Reads as study-files-reads
 
--- src/studying.rt:75:12
 is-formed-requires : tie.Need-is-formed-requires
 is-formed-requires c κs = search needs
 
--- src/studying.rt:76:13
 study-files-requires : tie.Need-study-files-requires
-study-files-requires c κs = ?
+study-files-requires c κs = sym (c .before .before .is-formed .ensures) ∙ c .before .if1 .taken
 
--- src/studying.rt:78:13
 refuse-by-state-requires : tie.Need-refuse-by-state-requires
 refuse-by-state-requires c κs = search needs
 
--- src/studying.rt:65:5
 same-length : tie.Need-same-length
 same-length c = search needs
 
--- src/studying.rt:65:5
 returns : tie.Need-returns
-returns c = ?
+returns c =
+    let studies = c .before .before .study-files .ensures in
+    (studies, answers-right _ _ _ _ _ _ _ studies)
 
--- src/studying.rt:65:5
 returns-2 : tie.Need-returns-2
-returns-2 c = ?
+returns-2 c =
+    let studies = ill-formed _ _ _ _ _ (sym (c .before .before .is-formed .ensures) ∙ c .before .if1 .left) _ (c .refuse-by-state .ensures) in
+    (studies, answers-right _ _ _ _ _ _ _ studies)
 
 pub study-spec : {M : Type 1} → statement M
 study-spec =

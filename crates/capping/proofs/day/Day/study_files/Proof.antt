@@ -1,75 +1,66 @@
+-- The files first. Assumes nothing.
+use native.Mathlib.Omega.{arith}
+use Rattle.filing.proofs.Rooms.{constraint-room, supply-room, schedules-room}
+use Rattle.capping.proofs.StudyCells.{was-filed, was-refused, filed-market, filed-schedules, filed-units, filed-rows}
+use Rattle.capping.proofs.StudyLaws.{not-filed, files-answered}
 use borrow.Author.Needs.{needs}
 use Rattle.capping.proofs.day.Day.study_files.Statement.{statement}
 use Rattle.capping.proofs.day.Day.study_files.Tie as tie
-use Rattle.capping.proofs.day.Day.study_files.Reads as reads
-use Rattle.capping.proofs.day.Day.study_files.Lts as lts
-use Rattle.capping.proofs.day.Day.refuse_study.Reads as refuse-study-reads
-use Rattle.capping.proofs.day.Day.study_rows.Reads as study-rows-reads
-use Rattle.filing.proofs.file.Reads as file-reads
 
--- src/studying.rt:101:13
 slice-aggregate-file : tie.Need-slice-aggregate-file
 slice-aggregate-file c = search needs
 
--- src/studying.rt:102:13
 slice-aggregate-file-2 : tie.Need-slice-aggregate-file-2
 slice-aggregate-file-2 c = search needs
 
--- src/studying.rt:103:13
 slice-aggregate-file-3 : tie.Need-slice-aggregate-file-3
 slice-aggregate-file-3 c = search needs
 
--- src/studying.rt:104:13
 slice-aggregate-file-4 : tie.Need-slice-aggregate-file-4
 slice-aggregate-file-4 c = search needs
 
--- src/studying.rt:97:13
 file-requires : tie.Need-file-requires
-file-requires c κs = ?
+file-requires c κs = (omega (arith, constraint-room), (omega (arith, supply-room), (omega (arith, schedules-room), omega arith)))
 
--- src/studying.rt:107:28
 enum-known-filed : tie.Need-enum-known-filed
 enum-known-filed c = search needs
 
--- src/studying.rt:107:40
 refuse-study-requires : tie.Need-refuse-study-requires
 refuse-study-requires c κs = search needs
 
--- src/studying.rt:108:25
 enum-known-filed-2 : tie.Need-enum-known-filed-2
 enum-known-filed-2 c = search needs
 
--- src/studying.rt:109:17
 slice-aggregate-study-rows : tie.Need-slice-aggregate-study-rows
 slice-aggregate-study-rows c = search needs
 
--- src/studying.rt:110:17
 slice-aggregate-study-rows-2 : tie.Need-slice-aggregate-study-rows-2
 slice-aggregate-study-rows-2 c = search needs
 
--- src/studying.rt:112:17
 slice-aggregate-study-rows-3 : tie.Need-slice-aggregate-study-rows-3
 slice-aggregate-study-rows-3 c = search needs
 
--- src/studying.rt:114:17
 slice-aggregate-study-rows-4 : tie.Need-slice-aggregate-study-rows-4
 slice-aggregate-study-rows-4 c = search needs
 
--- src/studying.rt:108:35
 study-rows-requires : tie.Need-study-rows-requires
-study-rows-requires c κs = ?
+study-rows-requires c κs =
+    let files = c .before .before .before .before .before .before .before .before .before .before .before .before .file .ensures in
+    let told = c .before .before .before .before .before .before .filed2 .given .1 in
+    (c .before .before .before .before .before .before .before .before .before .before .before .before .before .before .before .before .before .before .before .before .before .pre, (filed-market _ _ _ _ _ _ _ files _ told (omega arith) (omega arith), (filed-schedules _ _ _ _ _ _ _ files _ told (omega arith), filed-units _ _ _ _ _ _ _ files _ told (omega arith))))
 
--- src/studying.rt:83:5
 returns : tie.Need-returns
-returns c = ?
+returns c = not-filed _ _ _ _ _ (c .before .before .before .before .before .before .before .before .before .before .before .before .before .before .before .before .before .pre) _ (was-refused _ _ _ (c .before .before .before .before .before .before .before .before .file .ensures .answers) _ (c .before .before .filed .given .1)) _ (c .refuse-study .ensures)
 
--- src/studying.rt:83:5
 same-length : tie.Need-same-length
 same-length c = search needs
 
--- src/studying.rt:83:5
 returns-2 : tie.Need-returns-2
-returns-2 c = ?
+returns-2 c =
+    let files = c .before .before .before .before .before .before .before .before .before .before .before .before .before .before .before .file .ensures in
+    let told = c .before .before .before .before .before .before .before .before .before .filed2 .given .1 in
+    let rows = filed-rows _ _ _ _ _ _ _ files _ told in
+    files-answered _ _ _ _ _ (c .before .before .before .before .before .before .before .before .before .before .before .before .before .before .before .before .before .before .before .before .before .before .before .before .pre) (was-filed _ _ _ (files .answers) _ told .0) _ (rows .0) _ (rows .1) _ (rows .2) _ _ (c .before .before .study-rows .ensures)
 
 pub study-files-spec : {M : Type 1} → statement M
 study-files-spec =

@@ -1,82 +1,72 @@
+-- The rows of the files: 20, 21, then decided and answered. Assumes nothing.
+use native.Mathlib.Omega.{arith}
+use Rattle.capping.proofs.StudyCells.{unit-cells, was-costless, was-decided, rows-decided, decided-rows}
+use Rattle.capping.proofs.StudyLaws.{rows-earlier, rows-costless, rows-answered}
 use borrow.Author.Needs.{needs}
 use Rattle.capping.proofs.day.Day.study_rows.Statement.{statement}
 use Rattle.capping.proofs.day.Day.study_rows.Tie as tie
-use Rattle.capping.proofs.day.Day.study_rows.Reads as reads
-use Rattle.capping.proofs.day.Day.study_rows.Lts as lts
-use Rattle.capping.proofs.day.Day.answer_rows.Reads as answer-rows-reads
-use Rattle.capping.proofs.day.Day.is_earlier.Reads as is-earlier-reads
-use Rattle.capping.proofs.day.Day.lay_kinds.Reads as lay-kinds-reads
-use Rattle.capping.proofs.day.Day.refuse_by_state.Reads as refuse-by-state-reads
-use Rattle.capping.proofs.day.Day.refuse_study.Reads as refuse-study-reads
-use Rattle.decision.proofs.decide.Reads as decide-reads
 
--- src/studying.rt:139:20
 shared-slice-read-hour : tie.Need-shared-slice-read-hour
 shared-slice-read-hour c = search needs
 
--- src/studying.rt:140:12
 is-earlier-requires : tie.Need-is-earlier-requires
 is-earlier-requires c κs = search needs
 
--- src/studying.rt:141:13
 refuse-by-state-requires : tie.Need-refuse-by-state-requires
 refuse-by-state-requires c κs = search needs
 
--- src/studying.rt:141:13
 returns : tie.Need-returns
-returns c = ?
+returns c = rows-earlier _ _ _ _ _ (c .before .before .is-earlier .ensures) (c .before .if1 .taken) _ (c .refuse-by-state .ensures)
 
--- src/studying.rt:144:34
 slice-aggregate-lay-kinds : tie.Need-slice-aggregate-lay-kinds
 slice-aggregate-lay-kinds c = search needs
 
--- src/studying.rt:144:9
 lay-kinds-requires : tie.Need-lay-kinds-requires
 lay-kinds-requires c κs = search needs
 
--- src/studying.rt:153:13
 slice-aggregate-decide : tie.Need-slice-aggregate-decide
 slice-aggregate-decide c = search needs
 
--- src/studying.rt:155:13
 slice-aggregate-decide-2 : tie.Need-slice-aggregate-decide-2
 slice-aggregate-decide-2 c = search needs
 
--- src/studying.rt:146:13
 decide-requires : tie.Need-decide-requires
-decide-requires c κs = ?
+decide-requires c κs =
+    let start = c .before .before .before .before .before .before .before .before .before .before .before .before .before in
+    (start .pre .1 .0, (start .pre .1 .1 .0, unit-cells _ _ _ (start .pre .1 .1 .1) _ _ (omega (arith, start .pre .1 .1 .1 .few, c .before .before .before .lay-kinds .ensures .room)) (omega (arith, start .pre .1 .1 .1 .few))))
 
--- src/studying.rt:158:31
 enum-known-decided : tie.Need-enum-known-decided
 enum-known-decided c = search needs
 
--- src/studying.rt:158:40
 refuse-study-requires : tie.Need-refuse-study-requires
 refuse-study-requires c κs = search needs
 
--- src/studying.rt:163:59
 enum-told : tie.Need-enum-told
 enum-told c = search needs
 
--- src/studying.rt:163:59
 slice-aggregate-answer-rows : tie.Need-slice-aggregate-answer-rows
 slice-aggregate-answer-rows c = search needs
 
--- src/studying.rt:163:29
 answer-rows-requires : tie.Need-answer-rows-requires
-answer-rows-requires c κs = ?
+answer-rows-requires c κs =
+    let start = c .before .before .before .before .before .before .before .before .before .before .before .before .before .before .before .before .before .before .before in
+    (start .pre .0, decided-rows _ _ _ (start .pre .1 .1 .1) _ _ _ _ _ _ _ _ (c .before .before .before .before .before .before .before .before .before .lay-kinds .ensures) (c .before .before .before .before .before .decide .ensures) (c .before .before .enum-told .given .1) (omega (arith, start .pre .1 .1 .1 .few)))
 
--- src/studying.rt:122:5
 returns-2 : tie.Need-returns-2
-returns-2 c = ?
+returns-2 c =
+    let start = c .before .before .before .before .before .before .before .before .before .before .before .before .before .before .before .before .before .before .before in
+    rows-costless _ _ _ _ _ (c .before .before .before .before .before .before .before .before .before .before .before .before .is-earlier .ensures) (c .before .before .before .before .before .before .before .before .before .before .before .if1 .left) _ (was-costless _ _ _ (start .pre .1 .1 .1) _ _ _ _ _ _ _ _ (c .before .before .before .before .before .before .before .before .before .lay-kinds .ensures) (c .before .before .before .before .before .decide .ensures) (c .before .before .decided .given .1)) _ (c .refuse-study .ensures)
 
--- src/studying.rt:122:5
 same-length : tie.Need-same-length
 same-length c = search needs
 
--- src/studying.rt:122:5
 returns-3 : tie.Need-returns-3
-returns-3 c = ?
+returns-3 c =
+    let start = c .before .before .before .before .before .before .before .before .before .before .before .before .before .before .before .before .before .before .before .before .before .before in
+    let laid = c .before .before .before .before .before .before .before .before .before .before .before .before .lay-kinds .ensures in
+    let decides = c .before .before .before .before .before .before .before .before .decide .ensures in
+    let told = c .before .before .before .before .before .enum-told .given .1 in
+    rows-answered _ _ _ _ _ (c .before .before .before .before .before .before .before .before .before .before .before .before .before .before .before .is-earlier .ensures) (c .before .before .before .before .before .before .before .before .before .before .before .before .before .before .if1 .left) (was-decided _ _ _ (start .pre .1 .1 .1) _ _ _ _ _ _ _ _ laid decides told) _ (start .pre .1 .1 .1 .listed) _ (rows-decided _ _ _ (start .pre .1 .1 .1) _ _ _ _ _ _ _ _ laid decides told) _ _ (c .before .before .answer-rows .ensures)
 
 pub study-rows-spec : {M : Type 1} → statement M
 study-rows-spec =

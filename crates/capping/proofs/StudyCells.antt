@@ -19,7 +19,6 @@ use Rattle.base.proofs.Tests.{either}
 use Rattle.base.proofs.RisingLaws.{inserted-rising, inserted-new, inserted-there, among-inserted}
 use Rattle.tables.specs.Ranges.{PermittedConstraint, PermittedSupply, PermittedSchedule}
 use Rattle.tables.specs.Rows.{ConstraintRow, SupplyRow, ScheduleRow, constraintRow, supplyRows, scheduleRows}
-use Rattle.tables.specs.Table.{columnAt, allColumns, constraintColumns, supplyColumns, schedulesColumns}
 use Rattle.tables.specs.declared.files.Refusal.{Refusal}
 use Rattle.filing.specs.Filed.{sizes, filed, filedUnless, FilesKept, FilesFiled}
 use Rattle.filing.specs.Filing.{constraintOf, supplyOf, schedulesOf, filingRefusal}
@@ -31,15 +30,16 @@ use Rattle.filing.specs.Kept.{Kept}
 use Rattle.filing.specs.Supply.{units, suppliers, suppliersFrom, mostUnits}
 use Rattle.filing.proofs.UnitLaws.{units-rising, among-units}
 use Rattle.market.specs.Parties.{party, parties, met, metAll}
-use Rattle.market.specs.Ranges.{Permitted, SupplyCells}
 use Rattle.pivotal.specs.Suppliers.{among as amongParties}
-use Rattle.commitment.specs.Ranges.{InRange, UnitRows}
+use Rattle.commitment.specs.Ranges.{UnitRows}
 use Rattle.decision.specs.Deciding.{kindCell, costlessBy, laidBy, Decides, UnitCells}
 use Rattle.decision.specs.Standing.{MarketCells}
 use Rattle.decision.specs.declared.deciding.Decided.{Decided}
 use Rattle.decision.specs.declared.deciding.Decided.the-variants.{All as AllDecided, Costless}
 use Rattle.decision.proofs.DecidedRows.{kindCells, costless-units, rows-units}
+use Rattle.answer.proofs.RunCosts.{in-range}
 use Rattle.answer.proofs.StudyLetters.{decided-lettered}
+use Rattle.answer.proofs.StudyLongest.{permitted}
 use Rattle.judge.specs.Answer.{AnswerRow, answerRows}
 use Rattle.judge.specs.Day.{RunningUnit, kindRunning}
 use Rattle.judge.specs.Decision.{ofUnit, decidedRow, decided, costless}
@@ -89,22 +89,6 @@ parties-count : (rows : List SupplyRow) → All PermittedSupply rows → length 
 unfolding parties suppliers amongParties among
 parties-count rows p = parties-suppliers [] [] rows (record { same = λ _. refl; long = refl; rising = end }) p
 
-supply-permits : (r : SupplyRow) → PermittedSupply r → Permitted r
-unfolding columnAt allColumns constraintColumns supplyColumns schedulesColumns
-supply-permits r p = record { mw = p .mw; cost = p .cost; dfax = p .dfax }
-
-schedule-permits : (r : ScheduleRow) → PermittedSchedule r → InRange r
-schedule-permits r p =
-    record {
-      hour = p .hour;
-      ecomin = p .ecomin;
-      price = p .price;
-      noload = p .noload;
-      startup = p .startup;
-      least-minrun = p .some-minrun;
-      minrun = p .minrun;
-    }
-
 some-units : (rows : List SupplyRow) → All PermittedSupply rows → All (λ (r : SupplyRow). 1 ≤ r .unit) rows
 some-units [] all-none = all-none
 some-units (r ∷ rows) (all-more p ps) = all-more (p .some-unit) (some-units rows ps)
@@ -126,7 +110,7 @@ module _
               record {
                 inside = omega (arith, keeps .supply-few);
                 few = keeps .supply-few;
-                permitted = λ r m. supply-permits r (all-mem (keeps .supply-permitted) (rw rows at m));
+                permitted = λ r m. permitted (all-mem (keeps .supply-permitted) (rw rows at m));
               };
           few-parties = rw rows (omega (arith, parties-count (supplyOf s) (keeps .supply-permitted), keeps .suppliers-few));
         }
@@ -136,7 +120,7 @@ module _
         record {
           few = keeps .schedules-few;
           room = omega (arith, keeps .schedules-few);
-          ranged = λ r m. schedule-permits r (all-mem (keeps .schedules-permitted) (rw (cells .rows-kept .schedules-kept) at m));
+          ranged = λ r m. in-range (all-mem (keeps .schedules-permitted) (rw (cells .rows-kept .schedules-kept) at m));
         }
 
     pub units-of : 65 ≤ length us → UnitsOf (length (units (supplyOf s))) (supplyRows n supply) us

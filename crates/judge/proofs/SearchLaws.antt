@@ -75,7 +75,7 @@ module _ {A : Type 0} (p : A → Bool) where
 -- elements of which none is at odds with an earlier one
 module _ {A : Type 0} (odds : A → A → Bool) where
   -- the two parts of such a search that finds none
-  odds-none :
+  pub odds-none :
       (seen : List A) (k : ℕ) (x : A) (xs : List A) → firstAtOdds odds seen k (x ∷ xs) ≡ none →
       (any (odds x) seen ≡ false) × (firstAtOdds odds (x ∷ seen) (suc k) xs ≡ none)
   unfolding firstAtOdds

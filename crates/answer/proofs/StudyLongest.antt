@@ -1,0 +1,122 @@
+-- Document 01: "Its buffer holds the longest answer." Where no refusal but for 10 stands against a study, the fields of its
+-- rows are no wider than the longest answer has them, so its answer file is no longer. It goes by what demand 3 says of a row
+-- and by the ranges of the files' rows. Assumes nothing.
+use Prim.Native.Nat.{ℕ, _*_, _^_, _≤_, _<_}
+use mathlib.Core.Path.{_≡_, ap}
+use mathlib.Core.Logic.{_≢_, ⊎-elim}
+use mathlib.Core.List.{List, List·Memᴰ as Among}
+use mathlib.Core.Option.{none}
+use native.Mathlib.Omega.{arith}
+use lib.ListN.{length}
+use Rattle.base.specs.Search.{All}
+use Rattle.base.proofs.Elements.{all-mem, all-those}
+use Rattle.base.proofs.Tests.{eq-or-ne, lt-or-ge}
+use Rattle.tables.specs.Ranges.{PermittedSupply, PermittedSchedule}
+use Rattle.tables.specs.Rows.{ConstraintRow, SupplyRow, ScheduleRow}
+use Rattle.tables.specs.Table.{table, columnAt, allColumns, constraintColumns, supplyColumns, schedulesColumns}
+use Rattle.tables.specs.declared.files.File.the-variants.{Supply}
+use Rattle.filing.specs.Filing.{constraintOf, supplyOf, schedulesOf}
+use Rattle.filing.specs.Schedules.{own, schedulesAtOdds}
+use Rattle.filing.specs.Supply.{units}
+use Rattle.market.specs.Clearing.{eligibleSupply}
+use Rattle.market.specs.Ranges.{Permitted}
+use Rattle.market.specs.Removals.{remaining, relevantWithout}
+use Rattle.market.proofs.RangeLaws.{mostSupply, supply-of-small}
+use Rattle.commitment.specs.Choosing.{shown}
+use Rattle.commitment.specs.Exposure.{U}
+use Rattle.commitment.specs.Schedules.{atHour, schedules, running as runs}
+use Rattle.commitment.specs.declared.choosing.Choice.{Choice}
+use Rattle.commitment.proofs.PassingLaws.{among-passing}
+use Rattle.judge.specs.Answer.{AnswerRow, verdictLetter}
+use Rattle.judge.specs.Day.{RunningUnit, DayView, kindRunning}
+use Rattle.judge.specs.Decision.{unitRow, need, cleared, decidedRow}
+use Rattle.judge.specs.Right.{RightTest, RightSchedule, RightRow}
+use Rattle.judge.specs.Study.{studyRows, answerFile, decisionRefusal}
+use Rattle.judge.proofs.RowLaws.{row-right}
+use Rattle.judge.proofs.Sound.{files-kept, sound, some-need}
+use Rattle.judge.proofs.TestRight.{cleared-clears}
+use Rattle.judge.proofs.UnitSupplier.{unit-row}
+use Rattle.answer.specs.Longest.{Ranged, leftDigits, scheduleDigits, costDigits, longest}
+use Rattle.answer.proofs.LongestLaws.{answer-most}
+use Rattle.answer.proofs.RunCosts.{cost-small}
+use Rattle.answer.proofs.StudyRows.{studyRow, study-all, study-count}
+
+pub permitted : {r : SupplyRow} → PermittedSupply r → Permitted r
+unfolding columnAt allColumns constraintColumns supplyColumns schedulesColumns
+permitted p = record { mw = p .mw; cost = p .cost; dfax = p .dfax }
+
+-- what is left is what some removal leaves, and that is at most what all rows supply
+module _
+    (c : ConstraintRow) (supply : List SupplyRow) (positive : 0 < c .cutoff) (needs-some : 0 < need c supply)
+    (few : length supply ≤ table Supply .mostRows) (a : All PermittedSupply supply)
+  where
+    remaining-small : (q : SupplyRow) (taken : List ℕ) → remaining (c .cutoff) q taken supply ≤ table Supply .mostRows * mostSupply
+    unfolding remaining
+    remaining-small q taken =
+        omega (arith, supply-of-small (relevantWithout (c .cutoff) q taken) supply (λ r m. permitted (all-mem a m)))
+
+    left-small : {k v l : ℕ} → RightTest c supply k v l → l < 10 ^ leftDigits
+    left-small {k} {v} {l} t = ⊎-elim untested tested (eq-or-ne v (verdictLetter U))
+      where
+        untested : v ≡ verdictLetter U → l < 10 ^ leftDigits
+        untested e = omega (arith, t .nothing-left e)
+
+        tested : v ≢ verdictLetter U → l < 10 ^ leftDigits
+        tested n =
+            let enough : need c supply ≤ eligibleSupply (c .cutoff) supply =
+            ⊎-elim (λ h. absurd (n (t .shows-U .1 h))) (λ h. h) (lt-or-ge (eligibleSupply (c .cutoff) supply) (need c supply)) in
+            let (taken, r, e) = t .reached n (cleared c supply) (cleared-clears c supply positive needs-some enough) in
+            omega (arith, remaining-small (cleared c supply) taken)
+
+-- the schedule that a right row shows has a number within its range, and costs no more than a whole day
+module _
+    {c : ConstraintRow} {supply : List SupplyRow} {scheduled : List ScheduleRow} {running : List RunningUnit}
+    (a : All PermittedSchedule scheduled) (agree : schedulesAtOdds scheduled ≡ none)
+    {r : AnswerRow} (t : RightSchedule c supply scheduled running r)
+  where
+    row-permitted : PermittedSchedule (t .right .row)
+    unfolding own schedules
+    row-permitted =
+        all-mem (all-those _ a) (among-passing (atHour (c .hour)) (own (r .unit) scheduled) (t .right .is-eligible .of-the-unit) .0)
+
+    schedule-small : r .schedule < 10 ^ scheduleDigits
+    unfolding shown
+    schedule-small = omega (arith, ap (λ (x : Choice). x .schedule) (t .right .shows), row-permitted .schedule)
+
+    shown-cost-small : r .cost < 10 ^ costDigits
+    unfolding shown
+    shown-cost-small =
+        omega (
+          arith,
+          ap (λ (x : Choice). x .cost) (t .right .shows),
+          cost-small (c .hour) (r .unit) (t .right .row) scheduled a agree row-permitted (runs (kindRunning (r .unit) running)),
+        )
+
+module _ (d : DayView) (c s h : List ℕ) (e : decisionRefusal d c s h ≡ none) where
+  right-ranged :
+      (r : AnswerRow) → Among (r .unit) (units (supplyOf s)) →
+      RightRow (constraintOf c) (supplyOf s) (schedulesOf h) (d .running) r →
+      Ranged r
+  right-ranged r m t =
+      let k = files-kept d c s h e in
+      let w = unitRow (supplyOf s) (r .unit) in
+      let i = unit-row (constraintOf c) (supplyOf s) (r .unit) m in
+      let p = all-mem (k .supply-permitted) (i .a-row) in
+      let positive = k .constraint-permitted .some-cutoff in
+      record {
+        unit = omega (arith, i .its-unit, p .unit);
+        supplier = omega (arith, t .supplier w i, p .supplier);
+        left =
+            left-small (constraintOf c) (supplyOf s) positive (some-need (sound d c s h e)) (k .supply-few) (k .supply-permitted)
+            (t .tested w i);
+        schedule = schedule-small (k .schedules-permitted) (k .schedules-agree) (t .schedule);
+        cost = shown-cost-small (k .schedules-permitted) (k .schedules-agree) (t .schedule);
+      }
+
+  pub study-ranged : All Ranged (studyRows d c s h)
+  unfolding decidedRow
+  study-ranged = study-all d c s h (λ u m. right-ranged (studyRow d c s h u) m (row-right d c s h e u m))
+
+  pub study-longest : length (answerFile d c s h) ≤ longest
+  unfolding answerFile
+  study-longest = answer-most study-ranged (omega (arith, study-count d c s h, files-kept d c s h e .units-few))

@@ -1,0 +1,30 @@
+-- The rows of a study, one for each unit of its supply file: what holds of each unit's row holds of all. Assumes nothing.
+use Prim.Native.Nat.{ℕ}
+use mathlib.Core.Path.{_≡_, refl}
+use mathlib.Core.List.{List, [], _∷_, map, List·Memᴰ as Among, List·Memᴰ·head as first, List·Memᴰ·tail as later}
+use lib.ListN.{length, length-map}
+use Rattle.base.specs.Search.{All, all-none, all-more}
+use Rattle.filing.specs.Filing.{constraintOf, supplyOf, schedulesOf}
+use Rattle.filing.specs.Supply.{units}
+use Rattle.judge.specs.Answer.{AnswerRow}
+use Rattle.judge.specs.Day.{DayView}
+use Rattle.judge.specs.Decision.{decidedRow, decided}
+use Rattle.judge.specs.Study.{studyRows}
+
+pub all-map :
+    {A B : Type 0} {P : B → Type 0} (f : A → B) (xs : List A) → ((x : A) → Among x xs → P (f x)) → All P (map f xs)
+all-map f [] h = all-none
+all-map f (x ∷ xs) h = all-more (h x (first refl)) (all-map f xs (λ y m. h y (later m)))
+
+module _ (d : DayView) (c s h : List ℕ) where
+  -- the row of a unit
+  abbrev pub studyRow : ℕ → AnswerRow
+  studyRow = decidedRow (constraintOf c) (supplyOf s) (schedulesOf h) (d .running)
+
+  pub study-all : {P : AnswerRow → Type 0} → ((u : ℕ) → Among u (units (supplyOf s)) → P (studyRow u)) → All P (studyRows d c s h)
+  unfolding studyRows decided
+  study-all each = all-map studyRow (units (supplyOf s)) each
+
+  pub study-count : length (studyRows d c s h) ≡ length (units (supplyOf s))
+  unfolding studyRows decided
+  study-count = length-map (units (supplyOf s)) studyRow

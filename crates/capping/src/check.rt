@@ -2,16 +2,11 @@
 // as 9. Assumes nothing of the bytes.
 ghost use mathlib.Core.Path.{_≡_};
 ghost use Rattle.filing.specs.Filing.{checkNumber};
+use crate::sizes::CONSTRAINT_CELLS;
+use crate::sizes::SCHEDULE_CELLS;
+use crate::sizes::SUPPLY_CELLS;
+use crate::sizes::UNITS;
 use filing::Filed;
-
-// The cells of the longest files, and a place for the unit that is one too many.
-const CONSTRAINT_CELLS: usize = 3;
-
-const SUPPLY_CELLS: usize = 1280;
-
-const SCHEDULE_CELLS: usize = 9216;
-
-const UNITS: usize = 65;
 
 #[no_mangle]
 pub extern "C" fn capping_check(constraint: &[u8], supply: &[u8], schedules: &[u8]) -> u64

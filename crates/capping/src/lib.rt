@@ -6,6 +6,7 @@ mod day;
 mod forming;
 mod kinds;
 mod releasing;
+mod sizes;
 mod studying;
 
 pub use check::capping_check;

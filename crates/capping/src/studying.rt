@@ -13,22 +13,15 @@ ghost use Rattle.judge.specs.Decision.{decided};
 ghost use Rattle.capping.specs.View.{viewOf};
 ghost use Rattle.capping.specs.Studying.{Comes, Studies, AnswersRight, refusing, rowsStudied, decidedStudied, UnitsOf, RowsDecided};
 use crate::day::Day;
+use crate::sizes::ANSWER_CELLS;
+use crate::sizes::CONSTRAINT_CELLS;
+use crate::sizes::SCHEDULE_CELLS;
+use crate::sizes::SUPPLY_CELLS;
+use crate::sizes::UNITS;
 use decision::Decided;
 use decision::decide;
 use filing::Filed;
 use tables::Refusal;
-
-// The cells of the longest files and of the longest answer, and a place for the unit that is one too
-// many.
-const CONSTRAINT_CELLS: usize = 3;
-
-const SUPPLY_CELLS: usize = 1280;
-
-const SCHEDULE_CELLS: usize = 9216;
-
-const UNITS: usize = 65;
-
-const ANSWER_CELLS: usize = 448;
 
 // The hour's place in the constraint's row.
 const HOUR: usize = 0;

@@ -8,7 +8,7 @@ use mathlib.Core.List.{List, [], _∷_, _++_, map}
 use mathlib.Core.Option.{Option, none, some, Option·map}
 use native.Mathlib.Omega.{arith}
 use lib.Dec.{leb}
-use lib.ListN.{length, take, drop}
+use lib.ListN.{length, take, drop, length-append}
 use lib.Seq.{take-at}
 use borrow.Author.Tests.{le-leb, lt-leb}
 use Rattle.base.specs.Search.{firstOf}
@@ -232,12 +232,25 @@ module _ (day : Day) (c s h old new : List ℕ) (r : Studied) (studies : Studies
       (studyRefusal (viewOf day) c s h (length old))
       (sym e ∙ studies .answers)
 
-  file-written : studyRefusal (viewOf day) c s h (length old) ≡ none → take (length (answerFile (viewOf day) c s h)) new ≡ answerFile (viewOf day) c s h
+  file-bytes :
+      studyRefusal (viewOf day) c s h (length old) ≡ none →
+      new ≡ answerFile (viewOf day) c s h ++ drop (length (answerFile (viewOf day) c s h)) old
   unfolding studied answerFile
+  file-bytes e =
+      studies .bytes
+      ∙ written-bytes (viewOf day) (constraintOf c .hour) (studyRows (viewOf day) c s h) old (studyRefusal (viewOf day) c s h (length old)) e
+
+  file-written : studyRefusal (viewOf day) c s h (length old) ≡ none → take (length (answerFile (viewOf day) c s h)) new ≡ answerFile (viewOf day) c s h
   file-written e =
-      let text = answerText (studyRows (viewOf day) c s h) in
-      let bytes : new ≡ text ++ drop (length text) old = studies .bytes ∙ written-bytes (viewOf day) (constraintOf c .hour) (studyRows (viewOf day) c s h) old (studyRefusal (viewOf day) c s h (length old)) e in
-      rw bytes (take-at text (drop (length text) old) (length text) refl)
+      let text = answerFile (viewOf day) c s h in
+      rw (file-bytes e) (take-at text (drop (length text) old) (length text) refl)
+
+  -- the bytes that were written lie in the buffer
+  pub written-within : (count : ℕ) → r .answer ≡ Written count → count ≤ length new
+  written-within count e =
+      let (ok, counted) = accepted count e in
+      let text = answerFile (viewOf day) c s h in
+      rw (file-bytes ok, length-append text (drop (length text) old)) (omega (arith, counted))
 
   pub answers-right : AnswersRight day c s h new r
   unfolding studyRefusal

@@ -1,0 +1,77 @@
+// The program: studies the three files of the folder that it is run in with a fresh day, and prints
+// the answer file, or why there is none. Assumes nothing of the folder. What a file holds and what is
+// printed can't be said in a contract; what a study of those bytes gives is said by `Day::study`.
+ghost use Rattle.io.specs.Counts.{Counts};
+use capping::Day;
+use capping::Study;
+use libc::STDOUT_FILENO;
+use tables::Refusal;
+
+// The most bytes that a file may have: 64 KiB.
+const MOST: usize = 65536;
+
+// Room for one more, by which a file that is too long is known.
+const ROOM: usize = MOST + 1;
+
+fn main() {
+    let mut constraint = [0u8; ROOM];
+    let mut supply = [0u8; ROOM];
+    let mut schedules = [0u8; ROOM];
+    run(&mut constraint, &mut supply, &mut schedules);
+}
+
+// Reads the three files into the room lent, and studies them; one that is too long comes before every
+// refusal.
+fn run(constraint: &mut [u8], supply: &mut [u8], schedules: &mut [u8]) {
+    let c = read(b"constraint.csv", constraint);
+    let s = read(b"supply.csv", supply);
+    let t = read(b"schedules.csv", schedules);
+    if MOST < c || MOST < s || MOST < t {
+        print(b"too long\r\n");
+        return;
+    }
+    study(&constraint[0..c], &supply[0..s], &schedules[0..t]);
+}
+
+// Reads the file of this name to the start of the room, until it is full, and answers how many bytes
+// it read: none of a file that can't be opened.
+fn read(name: &[u8], room: &mut [u8]) -> usize
+    ensures { λ r. ⌜ Counts r (now (room .exit)) ⌝ }
+{
+    let file = os::open_read(name);
+    if file < 0 {
+        return 0;
+    }
+    let count = io::read_full(file, room);
+    libc::close(file);
+    count
+}
+
+// Studies the files with room for the longest answer.
+fn study(constraint: &[u8], supply: &[u8], schedules: &[u8]) {
+    let mut room = [0u8; answer::LONGEST];
+    study_into(constraint, supply, schedules, &mut room);
+}
+
+// Studies the files, and prints the answer file or the refusal.
+fn study_into(constraint: &[u8], supply: &[u8], schedules: &[u8], room: &mut [u8]) {
+    let studied = Day::fresh().study(constraint, supply, schedules, room);
+    let outcome = studied.answer;
+    match outcome {
+        Study::Written(count) => print(&room[0..count]),
+        Study::Refused(refusal) => print_refusal(refusal),
+    }
+}
+
+fn print_refusal(refusal: Refusal) {
+    io::print_decimal(STDOUT_FILENO, refusal.number);
+    print(b",");
+    io::print_decimal(STDOUT_FILENO, refusal.file);
+    print(b",");
+    io::print_decimal(STDOUT_FILENO, refusal.place);
+    print(b"\r\n");
+}
+
+fn print(text: &[u8]) {
+    io::write_all(STDOUT_FILENO, text);
+}

@@ -1,6 +1,7 @@
 pub mod AskingLaws
 pub mod CheckLaws
 pub mod CommitLaws
+pub mod ExportLaws
 pub mod FormingLaws
 pub mod ReleaseLaws
 pub mod StudyCells

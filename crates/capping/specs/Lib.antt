@@ -1,5 +1,6 @@
 pub mod Asking
 pub mod Committing
+pub mod Exports
 pub mod Releasing
 pub mod Studying
 pub mod View

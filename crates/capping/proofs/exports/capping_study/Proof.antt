@@ -1,0 +1,44 @@
+-- A fresh day's study, told by its numbers. Assumes nothing.
+use Rattle.capping.proofs.ExportLaws.{fresh-study, fresh-right}
+use borrow.Author.Needs.{needs}
+use Rattle.capping.proofs.exports.capping_study.Statement.{statement}
+use Rattle.capping.proofs.exports.capping_study.Tie as tie
+
+fresh-requires : tie.Need-fresh-requires
+fresh-requires c κs = search needs
+
+study-requires : tie.Need-study-requires
+study-requires c κs = search needs
+
+refusal-of-requires : tie.Need-refusal-of-requires
+refusal-of-requires c κs = search needs
+
+tell-requires : tie.Need-tell-requires
+tell-requires c κs = search needs
+
+count-of-requires : tie.Need-count-of-requires
+count-of-requires c κs = search needs
+
+same-length : tie.Need-same-length
+same-length c = search needs
+
+returns : tie.Need-returns
+returns c =
+    let told = c .before .before .before in
+    let study = told .before .before .before in
+    let fresh = study .before .before .fresh .ensures .0 in (
+      fresh-study _ _ _ _ _ _ fresh _ (study .study .ensures .0) (told .refusal-of .ensures) (c .count-of .ensures) (c .before .tell .ensures),
+      fresh-right _ _ _ _ _ (study .study .result) fresh (study .study .ensures .1) (c .count-of .ensures),
+    )
+
+pub capping-study-spec : {M : Type 1} → statement M
+capping-study-spec =
+    tie.close
+    (tie.spec
+    fresh-requires
+    study-requires
+    refusal-of-requires
+    tell-requires
+    count-of-requires
+    same-length
+    returns)

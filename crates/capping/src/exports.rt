@@ -1,0 +1,91 @@
+// The study and the test for host programs. Assumes nothing: of the files, the buffer, the report,
+// the amounts, the place and the need.
+ghost use mathlib.Core.Path.{_≡_};
+ghost use Rattle.pivotal.specs.Test.{tested};
+ghost use Rattle.capping.specs.Exports.{answerCount, answerRefusal, FreshStudy, FreshRight, cellsOf, verdictNumber, testNumber, testLeft};
+use crate::day::Day;
+use crate::studying::Study;
+use pivotal::Answer;
+use pivotal::Verdict;
+use tables::Refusal;
+
+// What the test answers by numbers.
+const PASSED: u64 = 0;
+
+const FAILED: u64 = 1;
+
+const TEST_REFUSED: u64 = 11;
+
+// Studies a fresh day: how many bytes were written, 0 where it is refused; the report is number, file
+// and place, all 0 where it is accepted.
+#[no_mangle]
+pub extern "C" fn capping_study(
+    constraint: &[u8],
+    supply: &[u8],
+    schedules: &[u8],
+    answer: &mut [u8],
+    report: &mut [u64; 3],
+) -> u64
+    ensures { λ r. ⌜ FreshStudy (now (constraint .entry)) (now (supply .entry)) (now (schedules .entry)) (now (answer .entry)) (now (answer .exit)) (now (report .exit)) r ⌝ }
+    ensures { λ r. ⌜ FreshRight (now (constraint .entry)) (now (supply .entry)) (now (schedules .entry)) (now (answer .exit)) r ⌝ }
+{
+    let day = Day::fresh();
+    let studied = day.study(constraint, supply, schedules, answer);
+    let study = studied.answer;
+    tell(refusal_of(study), report);
+    count_of(study)
+}
+
+// Tests the supplier at `place`: 0 for P and 1 for F, with what is left, or 11.
+#[no_mangle]
+pub extern "C" fn capping_test(amounts: &[u64], place: u64, need: u64, left: &mut u64) -> u64
+    ensures { λ r. ⌜ r ≡ testNumber (tested (now (amounts .entry)) place need) ⌝ }
+    ensures { λ r. ⌜ now (left .exit) ≡ testLeft (tested (now (amounts .entry)) place need) (now (left .entry)) ⌝ }
+{
+    let answer = pivotal::test(amounts, place as usize, need);
+    match answer {
+        Answer::Tested(remains, verdict) => {
+            *left = remains;
+            verdict_number(verdict)
+        }
+        Answer::Refused => TEST_REFUSED,
+    }
+}
+
+fn verdict_number(verdict: Verdict) -> u64
+    ensures { λ r. ⌜ r ≡ verdictNumber verdict ⌝ }
+{
+    match verdict {
+        Verdict::P => PASSED,
+        Verdict::F => FAILED,
+    }
+}
+
+// Stores number, file and place.
+fn tell(refusal: Refusal, report: &mut [u64; 3])
+    ensures { λ _. ⌜ now (report .exit) ≡ cellsOf refusal ⌝ }
+{
+    *report = [refusal.number, refusal.file, refusal.place];
+}
+
+fn count_of(study: Study) -> u64
+    ensures { λ r. ⌜ r ≡ answerCount study ⌝ }
+{
+    match study {
+        Study::Written(count) => count as u64,
+        Study::Refused(_) => 0,
+    }
+}
+
+fn refusal_of(study: Study) -> Refusal
+    ensures { λ r. ⌜ r ≡ answerRefusal study ⌝ }
+{
+    match study {
+        Study::Written(_) => Refusal {
+            number: 0,
+            file: 0,
+            place: 0,
+        },
+        Study::Refused(refusal) => refusal,
+    }
+}

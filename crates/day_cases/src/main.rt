@@ -1,19 +1,16 @@
 // Cases of release, one line for each: the answer, and then the day with its hour, its count and the
 // units that it counts. The file `stdout` is what a transcription of document 01 answered that knows
 // nothing of this engine. Assumes nothing.
-mod days;
-
 use capping::Day;
 use capping::LastHour;
 use capping::Release;
-use capping::Running;
 use days::C;
 use days::M;
 use days::day;
 use days::full;
-use libc::STDOUT_FILENO;
-use tables::Kind;
-use tables::Refusal;
+use days::print;
+use days::print_day;
+use days::print_refusal;
 
 const LARGEST: u64 = 0xFFFF_FFFF_FFFF_FFFF;
 
@@ -167,52 +164,4 @@ fn twice(day: Day, first: u64, second: u64) {
     let released = day.release(first);
     let after = released.day;
     run(after, second);
-}
-
-fn print_refusal(refusal: Refusal) {
-    io::print_decimal(STDOUT_FILENO, refusal.number);
-    print(b",");
-    io::print_decimal(STDOUT_FILENO, refusal.file);
-    print(b",");
-    io::print_decimal(STDOUT_FILENO, refusal.place);
-}
-
-fn print_day(day: Day) {
-    let hour = day.hour;
-    match hour {
-        LastHour::Fresh => print(b" none "),
-        LastHour::At(h) => print_hour(h),
-    }
-    io::print_decimal(STDOUT_FILENO, day.count as u64);
-    let mut i = 0;
-    while i < Day::UNITS {
-        if i < day.count {
-            let r = day.running[i];
-            print_unit(r);
-        }
-        i += 1;
-    }
-    print(b"\n");
-}
-
-fn print_hour(hour: u64) {
-    print(b" ");
-    io::print_decimal(STDOUT_FILENO, hour);
-    print(b" ");
-}
-
-fn print_unit(r: Running) {
-    print(b" ");
-    io::print_decimal(STDOUT_FILENO, r.unit);
-    print(b"/");
-    io::print_decimal(STDOUT_FILENO, r.schedule);
-    let kind = r.kind;
-    match kind {
-        Kind::M => print(b"/M"),
-        Kind::C => print(b"/C"),
-    }
-}
-
-fn print(text: &[u8]) {
-    io::write_all(STDOUT_FILENO, text);
 }

@@ -1,8 +1,8 @@
 -- The units that a day counts, one after the other. Assumes nothing.
 use Prim.Native.Nat.{_≤_, _-_}
 use borrow.Author.Needs.{needs}
-use Rattle.day_cases.proofs.print_day.Statement.{statement}
-use Rattle.day_cases.proofs.print_day.Tie as tie
+use Rattle.days.proofs.printing.print_day.Statement.{statement}
+use Rattle.days.proofs.printing.print_day.Tie as tie
 
 abbrev Inv-loop : tie.InvT-loop
 Inv-loop day i₀ t8 i = i ≤ 64

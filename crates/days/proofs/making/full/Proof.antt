@@ -1,8 +1,8 @@
 -- The places of a full day, one after the other. Assumes nothing.
 use Prim.Native.Nat.{_≤_, _-_}
 use borrow.Author.Needs.{needs}
-use Rattle.day_cases.proofs.days.full.Statement.{statement}
-use Rattle.day_cases.proofs.days.full.Tie as tie
+use Rattle.days.proofs.making.full.Statement.{statement}
+use Rattle.days.proofs.making.full.Tie as tie
 
 abbrev Inv-loop : tie.InvT-loop
 Inv-loop hour count running₀ i₀ running i = i ≤ 64

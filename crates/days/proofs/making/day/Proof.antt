@@ -1,8 +1,8 @@
 -- The places of a day, one after the other. Assumes nothing.
 use Prim.Native.Nat.{_≤_, _-_}
 use borrow.Author.Needs.{needs}
-use Rattle.day_cases.proofs.days.day.Statement.{statement}
-use Rattle.day_cases.proofs.days.day.Tie as tie
+use Rattle.days.proofs.making.day.Statement.{statement}
+use Rattle.days.proofs.making.day.Tie as tie
 
 abbrev Inv-loop : tie.InvT-loop
 Inv-loop hour count units running₀ i₀ running i = i ≤ 64

@@ -1,0 +1,12 @@
+// What programs of cases share: days made by hand, and the printing of days and refusals. Assumes
+// nothing.
+mod making;
+mod printing;
+
+pub use making::C;
+pub use making::M;
+pub use making::day;
+pub use making::full;
+pub use printing::print;
+pub use printing::print_day;
+pub use printing::print_refusal;

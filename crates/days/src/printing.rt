@@ -1,0 +1,57 @@
+// How cases print a refusal and a day. Assumes nothing.
+use capping::Day;
+use capping::LastHour;
+use capping::Running;
+use libc::STDOUT_FILENO;
+use tables::Kind;
+use tables::Refusal;
+
+// Number, file and place.
+pub fn print_refusal(refusal: Refusal) {
+    io::print_decimal(STDOUT_FILENO, refusal.number);
+    print(b",");
+    io::print_decimal(STDOUT_FILENO, refusal.file);
+    print(b",");
+    io::print_decimal(STDOUT_FILENO, refusal.place);
+}
+
+// Its hour, its count and the units that it counts, and the end of the line.
+pub fn print_day(day: Day) {
+    let hour = day.hour;
+    match hour {
+        LastHour::Fresh => print(b" none "),
+        LastHour::At(h) => print_hour(h),
+    }
+    io::print_decimal(STDOUT_FILENO, day.count as u64);
+    let mut i = 0;
+    while i < Day::UNITS {
+        if i < day.count {
+            let r = day.running[i];
+            print_unit(r);
+        }
+        i += 1;
+    }
+    print(b"\n");
+}
+
+fn print_hour(hour: u64) {
+    print(b" ");
+    io::print_decimal(STDOUT_FILENO, hour);
+    print(b" ");
+}
+
+fn print_unit(r: Running) {
+    print(b" ");
+    io::print_decimal(STDOUT_FILENO, r.unit);
+    print(b"/");
+    io::print_decimal(STDOUT_FILENO, r.schedule);
+    let kind = r.kind;
+    match kind {
+        Kind::M => print(b"/M"),
+        Kind::C => print(b"/C"),
+    }
+}
+
+pub fn print(text: &[u8]) {
+    io::write_all(STDOUT_FILENO, text);
+}

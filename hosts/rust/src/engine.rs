@@ -22,7 +22,13 @@ extern "C" {
         report: *mut [u64; 3],
     ) -> u64;
 
-    fn capping_test(amounts: *const u64, amounts_len: usize, place: u64, need: u64, left: *mut u64) -> u64;
+    fn capping_test(
+        amounts: *const u64,
+        amounts_len: usize,
+        place: u64,
+        need: u64,
+        left: *mut u64,
+    ) -> u64;
 }
 
 // SAFETY, for each call: a pointer is a slice's or a reference's, so it isn't null, as much as its length says stands there
@@ -41,7 +47,13 @@ pub fn check(constraint: &[u8], supply: &[u8], schedules: &[u8]) -> u64 {
     }
 }
 
-pub fn study(constraint: &[u8], supply: &[u8], schedules: &[u8], answer: &mut [u8], report: &mut [u64; 3]) -> u64 {
+pub fn study(
+    constraint: &[u8],
+    supply: &[u8],
+    schedules: &[u8],
+    answer: &mut [u8],
+    report: &mut [u64; 3],
+) -> u64 {
     unsafe {
         capping_study(
             constraint.as_ptr(),

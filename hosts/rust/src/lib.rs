@@ -1,5 +1,13 @@
 //! The offer capping engine as Rust programs call it: check three files, study them on a fresh day, test one supplier.
-//! There is no state, so threads may call at the same time. A call takes some 200 KiB of stack.
+//! There is no state, so threads may call at the same time. A call takes up to 240 KiB of stack.
+//!
+//! ```
+//! let [c, s, h] = ["constraint.csv", "supply.csv", "schedules.csv"].map(|name| std::fs::read(name).unwrap_or_default());
+//! match capping::study(&c, &s, &h) {
+//!     Ok(answer) => print!("{}", String::from_utf8_lossy(&answer)),
+//!     Err(refusal) => println!("{refusal}"),
+//! }
+//! ```
 mod engine;
 mod refusal;
 
@@ -33,12 +41,23 @@ pub fn study(constraint: &[u8], supply: &[u8], schedules: &[u8]) -> Result<Vec<u
 
 /// Studies the three files on a fresh day, writes the answer file from the start of the buffer, and answers its length. Bytes
 /// past the answer stay, and a refused study changes none.
-pub fn study_into(constraint: &[u8], supply: &[u8], schedules: &[u8], answer: &mut [u8]) -> Result<usize, Refusal> {
+pub fn study_into(
+    constraint: &[u8],
+    supply: &[u8],
+    schedules: &[u8],
+    answer: &mut [u8],
+) -> Result<usize, Refusal> {
     let mut report = [0; 3];
     let count = engine::study(constraint, supply, schedules, answer, &mut report);
     match report {
-        [0, _, _] => Ok(usize::try_from(count).expect("no more bytes are written than the buffer has")),
-        [number, file, place] => Err(Refusal { number, file, place }),
+        [0, _, _] => {
+            Ok(usize::try_from(count).expect("no more bytes are written than the buffer has"))
+        }
+        [number, file, place] => Err(Refusal {
+            number,
+            file,
+            place,
+        }),
     }
 }
 
@@ -48,6 +67,10 @@ pub fn test(amounts: &[u64], place: usize, need: u64) -> Result<(u64, Verdict), 
     match engine::test(amounts, place as u64, need, &mut left) {
         0 => Ok((left, Verdict::P)),
         1 => Ok((left, Verdict::F)),
-        number => Err(Refusal { number, file: 0, place: 0 }),
+        number => Err(Refusal {
+            number,
+            file: 0,
+            place: 0,
+        }),
     }
 }

@@ -75,7 +75,8 @@ _engine = _loaded()
 
 def _lent(*files):
     """Each file as a pointer and a length."""
-    return [part for file in files for part in (bytes(file), len(file))]
+    held = [bytes(file) for file in files]
+    return [part for file in held for part in (file, len(file))]
 
 
 def check(constraint, supply, schedules):
@@ -87,6 +88,8 @@ def check(constraint, supply, schedules):
 def study(constraint, supply, schedules, room=LONGEST_ANSWER):
     """Studies the three files, each as bytes, on a fresh day, and answers the answer file. `room` is how long a buffer is
     lent to it; the longest answer always fits."""
+    if room < 0:
+        raise ValueError("a buffer has no negative length")
     answer = ctypes.create_string_buffer(max(room, 1))
     report = (ctypes.c_uint64 * 3)()
     count = _engine.capping_study(*_lent(constraint, supply, schedules), answer, room, report)
@@ -97,6 +100,7 @@ def study(constraint, supply, schedules, room=LONGEST_ANSWER):
 
 def test(amounts, place, need):
     """Tests the supplier at `place`, counted from 0: what is left without it and its two largest others, and P or F."""
+    amounts = list(amounts)
     if not (0 <= need <= MOST_64_BIT):
         raise ValueError("the need is a 64-bit number")
     if not all(0 <= number <= MOST_64_BIT for number in (*amounts, place)):

@@ -54,6 +54,14 @@ class Study(Case):
         words = self.refused(10, 0, 0, capping.study, *STARRED, room=len(STARRED_ANSWER) - 1)
         self.assertEqual(words, "refusal 10: the buffer is shorter than the answer")
         self.refused(10, 0, 0, capping.study, *STARRED, room=0)
+        with self.assertRaises(ValueError):
+            capping.study(*STARRED, room=-1)
+
+    def test_bytes_of_any_kind(self):
+        self.assertEqual(capping.study(*map(bytearray, STARRED)), STARRED_ANSWER)
+        self.assertEqual(capping.study(*map(memoryview, STARRED)), STARRED_ANSWER)
+        with self.assertRaises(TypeError):
+            capping.study("", "", "")
 
     def test_refused_file(self):
         words = self.refused(1, 2, 0, capping.study, HOUR_5, SUPPLY + b"11\t", SCHEDULES)

@@ -1,7 +1,9 @@
-/* Cases of the exported check, one for each number at least. What each must answer was worked from document 01. */
+/* Cases of the exported check, study and test, one for each number at least that a call can give. What each must answer was
+ * worked from document 01. */
 #include "capping.h"
 
 #include <stdio.h>
+#include <stdlib.h>
 #include <string.h>
 
 #define CONSTRAINT "hour,relief,cutoff\r\n"
@@ -47,15 +49,109 @@ static const struct example examples[] = {
     {"no row for the study hour", 9, HOUR_5, TWO_UNITS, SCHEDULES ROW_OF_11 "12,1,C,6,100,3000,0,0,1\r\n"},
 };
 
+/* The starred example of document 01, and its answer. */
+#define STARRED_SUPPLY SUPPLY "11,1,1000,3000,5000\r\n12,2,1000,3000,-5000\r\n13,3,1000,4000,5000\r\n14,4,2000,2000,200\r\n"
+#define STARRED_SCHEDULES \
+    SCHEDULES "11,1,M,5,100,4000,50000,20000,1\r\n11,2,C,5,100,3000,50000,20000,1\r\n" \
+              "12,1,M,5,100,3300,0,0,1\r\n12,2,C,5,100,3000,0,0,1\r\n13,1,C,5,200,4000,0,1000,1\r\n" \
+              "14,1,M,5,100,5000,0,0,1\r\n14,2,C,5,100,2000,0,0,1\r\n"
+#define ANSWER_HEADER "unit,supplier,verdict,left,schedule,kind,cost\r\n"
+#define STARRED_ANSWER \
+    ANSWER_HEADER "11,1,F,0,2,C,1030000\r\n12,2,F,0,1,M,330000\r\n13,3,F,0,1,C,890000\r\n14,4,F,5000000,1,M,500000\r\n"
+
+/* A study: how long a buffer is lent, what is written or else what is reported. */
+struct study {
+    const char *name;
+    size_t room;
+    const char *answer;
+    uint64_t report[3];
+    const char *constraint;
+    const char *supply;
+    const char *schedules;
+};
+
+static const struct study studies[] = {
+    {"the starred example", CAPPING_LONGEST_ANSWER, STARRED_ANSWER, {0, 0, 0}, HOUR_5, STARRED_SUPPLY, STARRED_SCHEDULES},
+    {"a buffer that just fits", sizeof STARRED_ANSWER - 1, STARRED_ANSWER, {0, 0, 0}, HOUR_5, STARRED_SUPPLY, STARRED_SCHEDULES},
+    {"a buffer one short", sizeof STARRED_ANSWER - 2, "", {10, 0, 0}, HOUR_5, STARRED_SUPPLY, STARRED_SCHEDULES},
+    {"no room at all", 0, "", {10, 0, 0}, HOUR_5, STARRED_SUPPLY, STARRED_SCHEDULES},
+    {"no units", sizeof ANSWER_HEADER - 1, ANSWER_HEADER, {0, 0, 0}, HOUR_5, SUPPLY, SCHEDULES},
+    {"empty constraint", 0, "", {2, 1, 0}, "", TWO_UNITS, BOTH_UNITS},
+    {"text behind a closing quote", 99, "", {1, 2, 0}, HOUR_5, TWO_UNITS "\"13\"3", BOTH_UNITS},
+    {"ten fields in the third schedule row", 99, "", {2, 3, 3}, HOUR_5, TWO_UNITS, BOTH_UNITS "12,2,C,5,100,3000,0,0,1,1\r\n"},
+    {"dfax -0 in the third supply row", 99, "", {3, 2, 3}, HOUR_5, TWO_UNITS "13,3,1,0,-0\r\n", BOTH_UNITS},
+    {"two constraint rows", 99, "", {4, 1, 0}, HOUR_5 "5,1000,300\r\n", TWO_UNITS, BOTH_UNITS},
+    {"a unit's other supplier", 99, "", {6, 2, 3}, HOUR_5, TWO_UNITS "11,2,1000,3000,5000\r\n", BOTH_UNITS},
+    {"a unit not in supply", 99, "", {7, 3, 3}, HOUR_5, TWO_UNITS, BOTH_UNITS "13,1,C,5,100,3000,0,0,1\r\n"},
+    {"unit 12 without a schedule", 99, "", {8, 3, 12}, HOUR_5, TWO_UNITS, SCHEDULES ROW_OF_11},
+    {"unit 12 without its second hour", 99, "", {9, 3, 12}, HOUR_5, TWO_UNITS, BOTH_UNITS "12,2,C,5,100,3000,0,0,2\r\n"},
+};
+
+/* A test of one supplier. */
+struct one_test {
+    const char *name;
+    uint64_t amounts[33];
+    size_t count;
+    uint64_t place, need, verdict, left;
+};
+
+#define MOST_AMOUNT UINT64_C(1000000000000)
+#define UNTOUCHED UINT64_C(77)
+
+static const struct one_test tests[] = {
+    {"the last of four at need 2", {4, 3, 2, 1}, 4, 3, 2, CAPPING_P, 2},
+    {"the last of four at need 3", {4, 3, 2, 1}, 4, 3, 3, CAPPING_F, 2},
+    {"no two others exist", {5, 5}, 2, 0, 1, CAPPING_F, 0},
+    {"need 0", {5}, 1, 0, 0, CAPPING_P, 0},
+    {"the largest need", {MOST_AMOUNT, MOST_AMOUNT, MOST_AMOUNT, MOST_AMOUNT}, 4, 1, UINT64_MAX, CAPPING_F, MOST_AMOUNT},
+    {"32 amounts of 0", {0}, 32, 31, 1, CAPPING_F, 0},
+    {"33 amounts", {0}, 33, 0, 1, CAPPING_TEST_REFUSED, UNTOUCHED},
+    {"an amount above 10^12", {1, MOST_AMOUNT + 1}, 2, 0, 1, CAPPING_TEST_REFUSED, UNTOUCHED},
+    {"a place past the last", {4, 3, 2, 1}, 4, 4, 1, CAPPING_TEST_REFUSED, UNTOUCHED},
+    {"a place of 2^63", {4, 3, 2, 1}, 4, UINT64_C(1) << 63, 1, CAPPING_TEST_REFUSED, UNTOUCHED},
+    {"no amounts", {0}, 0, 0, 1, CAPPING_TEST_REFUSED, UNTOUCHED},
+};
+
 static int failures;
+
+static void require(const char *name, const char *what, int kept) {
+    if (!kept) {
+        printf("%s: %s\n", name, what);
+        failures++;
+    }
+}
+
+/* Studies on a buffer that is filled with a pattern first. What is lent is just as long as it is said to be, so that a tool
+ * that watches memory sees a byte touched beside it. */
+static void expect_study(const struct study *s) {
+    uint8_t *buffer = malloc(s->room > 0 ? s->room : 1);
+    uint64_t *report = malloc(3 * sizeof *report);
+    size_t length = strlen(s->answer), changed = 0;
+    memset(buffer, 0xA5, s->room > 0 ? s->room : 1);
+    for (int i = 0; i < 3; i++)
+        report[i] = UNTOUCHED;
+    uint64_t count = capping_study((const uint8_t *)s->constraint, strlen(s->constraint), (const uint8_t *)s->supply,
+                                   strlen(s->supply), (const uint8_t *)s->schedules, strlen(s->schedules), buffer, s->room, report);
+    for (size_t i = length; i < s->room; i++)
+        changed += buffer[i] != 0xA5;
+    require(s->name, "another count", count == length);
+    require(s->name, "another answer", memcmp(buffer, s->answer, length) == 0);
+    require(s->name, "a byte changed past the answer", changed == 0);
+    require(s->name, "another report", memcmp(report, s->report, sizeof s->report) == 0);
+    free(report);
+    free(buffer);
+}
+
+static void expect_test(const struct one_test *t) {
+    uint64_t left = UNTOUCHED;
+    require(t->name, "another verdict", capping_test(t->amounts, t->count, t->place, t->need, &left) == t->verdict);
+    require(t->name, "another left", left == t->left);
+}
 
 static void expect(const char *name, uint64_t number, const char *constraint, const char *supply, const char *schedules) {
     uint64_t answer = capping_check((const uint8_t *)constraint, strlen(constraint), (const uint8_t *)supply, strlen(supply),
                                     (const uint8_t *)schedules, strlen(schedules));
-    if (answer != number) {
-        printf("%s: %llu, not %llu\n", name, (unsigned long long)answer, (unsigned long long)number);
-        failures++;
-    }
+    require(name, "another number", answer == number);
 }
 
 /* A supply file of so many rows: units 1 to units and suppliers 1 to suppliers, over and over. */
@@ -77,5 +173,9 @@ int main(void) {
     expect("a 33rd supplier", 5, HOUR_5, supply_of(33, 33, 33), BOTH_UNITS);
     expect("64 units and 32 suppliers, of which one has a schedule", 8, HOUR_5, supply_of(256, 64, 32),
            SCHEDULES "1,1,C,5,100,3000,0,0,1\r\n");
+    for (size_t i = 0; i < sizeof studies / sizeof *studies; i++)
+        expect_study(&studies[i]);
+    for (size_t i = 0; i < sizeof tests / sizeof *tests; i++)
+        expect_test(&tests[i]);
     return failures == 0 ? 0 : 1;
 }

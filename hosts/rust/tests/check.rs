@@ -24,21 +24,40 @@ fn kept() -> Files {
 }
 
 impl Files {
+    /// 0, or the number of the first refusal.
     fn number(&self) -> u64 {
-        check(self.constraint.as_bytes(), self.supply.as_bytes(), self.schedules.as_bytes())
+        check(
+            self.constraint.as_bytes(),
+            self.supply.as_bytes(),
+            self.schedules.as_bytes(),
+        )
+        .err()
+        .unwrap_or(0)
     }
 }
 
 fn constraint(text: &str) -> u64 {
-    Files { constraint: text.to_string(), ..kept() }.number()
+    Files {
+        constraint: text.to_string(),
+        ..kept()
+    }
+    .number()
 }
 
 fn supply(text: &str) -> u64 {
-    Files { supply: text.to_string(), ..kept() }.number()
+    Files {
+        supply: text.to_string(),
+        ..kept()
+    }
+    .number()
 }
 
 fn schedules(text: &str) -> u64 {
-    Files { schedules: text.to_string(), ..kept() }.number()
+    Files {
+        schedules: text.to_string(),
+        ..kept()
+    }
+    .number()
 }
 
 /// The kept file with more behind it.
@@ -59,7 +78,14 @@ fn supply_of(rows: usize, units: usize, suppliers: usize) -> String {
 #[test]
 fn every_rule_kept() {
     assert_eq!(kept().number(), 0);
-    assert_eq!(check(kept().constraint.as_bytes(), SUPPLY.as_bytes(), SCHEDULES.as_bytes()), 0);
+    assert_eq!(
+        check(
+            kept().constraint.as_bytes(),
+            SUPPLY.as_bytes(),
+            SCHEDULES.as_bytes()
+        ),
+        Ok(())
+    );
     assert_eq!(constraint(&format!("{CONSTRAINT}\"5\",1000,300")), 0);
 }
 
@@ -87,7 +113,10 @@ fn field_ill_formed_or_out_of_range() {
 #[test]
 fn number_of_rows() {
     assert_eq!(constraint(CONSTRAINT), 4);
-    assert_eq!(constraint(&format!("{CONSTRAINT}5,1000,300\r\n5,1000,300\r\n")), 4);
+    assert_eq!(
+        constraint(&format!("{CONSTRAINT}5,1000,300\r\n5,1000,300\r\n")),
+        4
+    );
     assert_eq!(supply(&supply_of(257, 64, 32)), 4);
 }
 
@@ -123,5 +152,10 @@ fn unit_without_a_schedule() {
 #[test]
 fn schedule_lacking_an_hour() {
     assert_eq!(more_schedules("12,2,C,5,100,3000,0,0,2\r\n"), 9);
-    assert_eq!(schedules(&format!("{SCHEDULES}{ROW_OF_11}12,1,C,6,100,3000,0,0,1\r\n")), 9);
+    assert_eq!(
+        schedules(&format!(
+            "{SCHEDULES}{ROW_OF_11}12,1,C,6,100,3000,0,0,1\r\n"
+        )),
+        9
+    );
 }

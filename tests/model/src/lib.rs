@@ -16,7 +16,8 @@
 //! | [`study`] | everything above in the order of the refusals |
 //! | [`check`] | the check for host programs |
 //!
-//! What follows isn't in the paper: [`case`] reads and answers cases written as lines.
+//! What follows isn't in the paper: [`case`] reads and answers cases written as lines, [`judge`]
+//! weighs any answer by the words of demand 3, and [`changes`] makes answers for it to reject.
 
 pub mod csv;
 pub mod refusal;
@@ -31,3 +32,5 @@ pub mod study;
 pub mod check;
 
 pub mod case;
+pub mod judge;
+pub mod changes;

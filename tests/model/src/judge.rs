@@ -32,10 +32,12 @@ struct Unit {
     supplier: u64,
     has_eligible_row: bool,
     has_relevant_row: bool,
-    running: Option<Kind>,
     /// What each removal leaves.
     removals: Vec<u64>,
     schedules: Vec<Offered>,
+    /// The eligible schedules where the unit is exposed, and where it isn't.
+    eligible_exposed: Vec<Offered>,
+    eligible_otherwise: Vec<Offered>,
 }
 
 /// A schedule of a unit, "with its true kind and cost".
@@ -86,12 +88,13 @@ impl Judge {
 
     /// Accepts bytes, or says what of demand 3 they break.
     pub fn weigh(&self, bytes: &[u8]) -> Result<(), Reason> {
-        let shown = read_rows(bytes)?;
-        hold(shown.len() == self.units.len(), "not one row per unit")?;
-        for (row, unit) in shown.iter().zip(&self.units) {
-            self.weigh_row(row, unit)?;
+        let mut rest = bytes.strip_prefix(HEADER).ok_or("not the header")?;
+        for unit in &self.units {
+            let (row, after) = read_row(rest)?;
+            self.weigh_row(&row, unit)?;
+            rest = after;
         }
-        Ok(())
+        hold(rest.is_empty(), "more than one row per unit")
     }
 
     /// "The following holds of every row."
@@ -107,7 +110,7 @@ impl Judge {
             hold(unit.removals.contains(&row.left), "an amount that no removal leaves")?;
             hold(unit.removals.iter().all(|&left| left >= row.left), "a removal leaves less")?;
         }
-        let eligible = unit.eligible_schedules(row.verdict);
+        let eligible = unit.eligible(row.verdict);
         hold(eligible.contains(&row.schedule), "not an eligible schedule with its kind and cost")?;
         let mut others = eligible.iter().filter(|other| other.number != row.schedule.number);
         hold(others.all(|other| comes_after(other, &row.schedule)), "another schedule comes before")
@@ -135,32 +138,43 @@ impl Unit {
         let of_unit = |row: &Supply| row.unit == number;
         let supplier = filing.supply.iter().find(|row| of_unit(row)).map_or(0, |row| row.supplier);
         let day_has = day.running.iter().find(|running| running.unit == number);
+        let schedules = offered(number, filing, day_has.is_some());
+        let on_cost = day_has.is_some_and(|running| running.kind == Kind::C);
         Unit {
             number,
             supplier,
             has_eligible_row: eligible.iter().any(of_unit),
             has_relevant_row: relevant.iter().any(of_unit),
-            running: day_has.map(|running| running.kind),
             removals: removals(supplier, &filing.suppliers(), relevant),
-            schedules: offered(number, filing, day_has.is_some()),
+            eligible_exposed: eligible_schedules(&schedules, on_cost, true),
+            eligible_otherwise: eligible_schedules(&schedules, on_cost, false),
+            schedules,
         }
     }
 
     /// The eligible schedules of a unit whose verdict is the one shown.
-    fn eligible_schedules(&self, verdict: u8) -> Vec<Offered> {
+    fn eligible(&self, verdict: u8) -> &[Offered] {
         let exposed = verdict == b'F' && self.has_relevant_row || verdict == b'U' && self.has_eligible_row;
-        let of_kind =
-            |kind| self.schedules.iter().filter(|schedule| schedule.kind == kind).copied().collect();
-        let market_based: Vec<Offered> = of_kind(Kind::M);
-        if self.running == Some(Kind::C) {
-            of_kind(Kind::C)
-        } else if exposed {
-            self.schedules.clone()
-        } else if !market_based.is_empty() {
-            market_based
+        if exposed {
+            &self.eligible_exposed
         } else {
-            of_kind(Kind::C)
+            &self.eligible_otherwise
         }
+    }
+}
+
+/// The eligible ones of a unit's schedules.
+fn eligible_schedules(schedules: &[Offered], on_cost: bool, exposed: bool) -> Vec<Offered> {
+    let of_kind = |kind| schedules.iter().filter(|schedule| schedule.kind == kind).copied().collect();
+    let market_based: Vec<Offered> = of_kind(Kind::M);
+    if on_cost {
+        of_kind(Kind::C)
+    } else if exposed {
+        schedules.to_vec()
+    } else if !market_based.is_empty() {
+        market_based
+    } else {
+        of_kind(Kind::C)
     }
 }
 
@@ -248,30 +262,34 @@ fn cost_of_hour(row: &Schedule) -> u64 {
     row.ecomin * price + 10 * row.noload
 }
 
-/// The rows that the bytes show, where they are in the fixed layout.
-fn read_rows(bytes: &[u8]) -> Result<Vec<Shown>, Reason> {
-    let mut rest = bytes.strip_prefix(HEADER).ok_or("not the header")?;
-    let mut rows = Vec::new();
-    while !rest.is_empty() {
-        let end = rest.windows(2).position(|pair| pair == b"\r\n").ok_or("a record without its end")?;
-        rows.push(read_row(&rest[..end]).ok_or("a record out of the layout")?);
-        rest = &rest[end + 2..];
-    }
-    Ok(rows)
+/// The row that a part of the bytes begins with, and the rest.
+fn read_row(bytes: &[u8]) -> Result<(Shown, &[u8]), Reason> {
+    let end = bytes.windows(2).position(|pair| pair == b"\r\n").ok_or("a record without its end")?;
+    let shown = read_record(&bytes[..end]).ok_or("a record out of the layout")?;
+    Ok((shown, &bytes[end + 2..]))
 }
 
-fn read_row(record: &[u8]) -> Option<Shown> {
-    let fields: Vec<&[u8]> = record.split(|&byte| byte == b',').collect();
-    let [unit, supplier, verdict, left, schedule, kind, cost] = fields[..] else { return None };
-    let &[verdict @ (b'U' | b'P' | b'F')] = verdict else { return None };
-    let kind = Kind::read(kind)?;
-    Some(Shown {
-        unit: read_numeral(unit)?,
-        supplier: read_numeral(supplier)?,
-        verdict,
-        left: read_numeral(left)?,
-        schedule: Offered { number: read_numeral(schedule)?, kind, cost: read_numeral(cost)? },
-    })
+fn read_record(record: &[u8]) -> Option<Shown> {
+    let mut fields = record.split(|&byte| byte == b',');
+    let row = Shown {
+        unit: read_numeral(fields.next()?)?,
+        supplier: read_numeral(fields.next()?)?,
+        verdict: read_verdict(fields.next()?)?,
+        left: read_numeral(fields.next()?)?,
+        schedule: Offered {
+            number: read_numeral(fields.next()?)?,
+            kind: Kind::read(fields.next()?)?,
+            cost: read_numeral(fields.next()?)?,
+        },
+    };
+    fields.next().is_none().then_some(row)
+}
+
+fn read_verdict(text: &[u8]) -> Option<u8> {
+    match text {
+        [letter @ (b'U' | b'P' | b'F')] => Some(*letter),
+        _ => None,
+    }
 }
 
 /// A numeral; one beyond the type is beyond every number that a row can show.
@@ -326,12 +344,13 @@ mod tests {
             ("11,1,F,0,2,M,1030000", "not an eligible schedule with its kind and cost"),
             ("11,1,F,0,2,C,1030001", "not an eligible schedule with its kind and cost"),
             ("11,1,F,0,1,M,1100000", "another schedule comes before"),
-            ("11,1,F,0,2,C,1030000\r\n11,1,F,0,2,C,1030000", "not one row per unit"),
+            ("11,1,F,0,2,C,1030000\r\n11,1,F,0,2,C,1030000", "not by rising number"),
         ];
         for (row, reason) in reasons {
             assert_eq!(weigh(first, row), Err(reason), "{row}");
         }
-        assert_eq!(weigh("", "x"), Err("a record without its end"));
+        assert_eq!(weigh("", "x"), Err("more than one row per unit"));
+        assert_eq!(weigh("14,4,F,5000000,1,M,500000", ""), Err("a record out of the layout"));
         assert_eq!(weigh(STARRED[0], "unit"), Err("not the header"));
     }
 

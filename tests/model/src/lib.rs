@@ -17,7 +17,8 @@
 //! | [`check`] | the check for host programs |
 //!
 //! What follows isn't in the paper: [`case`] reads and answers cases written as lines, [`judge`]
-//! weighs any answer by the words of demand 3, and [`changes`] makes answers for it to reject.
+//! weighs any answer by the words of demand 3, [`changes`] makes answers for it to reject,
+//! [`generator`] makes cases up, and [`tally`] counts what they reached.
 
 pub mod csv;
 pub mod refusal;
@@ -34,3 +35,5 @@ pub mod check;
 pub mod case;
 pub mod judge;
 pub mod changes;
+pub mod generator;
+pub mod tally;

@@ -11,7 +11,7 @@
 //! its schedule. C, S and H are the files in lower-case hex, `.` for an empty file; `.` stands for no
 //! amounts too. Whatever isn't in this form is answered by `unreadable case`.
 
-use std::fmt::{self, Display, Formatter};
+use std::fmt::{self, Display, Formatter, Write};
 
 use crate::check::check;
 use crate::day::{Day, Running};
@@ -168,17 +168,21 @@ impl Display for Hex<'_> {
         if self.0.is_empty() {
             return out.write_str(".");
         }
-        let digits = b"0123456789abcdef";
-        let digit = |value: u8| char::from(digits[usize::from(value)]);
-        let text: String = self.0.iter().flat_map(|byte| [digit(byte >> 4), digit(byte & 15)]).collect();
-        out.write_str(&text)
+        let digit = |value: u8| char::from(b"0123456789abcdef"[usize::from(value)]);
+        for byte in self.0 {
+            out.write_char(digit(byte >> 4))?;
+            out.write_char(digit(byte & 15))?;
+        }
+        Ok(())
     }
 }
 
 /// The bytes that lower-case hex stands for.
 pub fn read_hex(text: &str) -> Option<Vec<u8>> {
-    if text == "." {
-        return Some(Vec::new());
+    match text {
+        "" => return None,
+        "." => return Some(Vec::new()),
+        _ => {}
     }
     let digit = |byte: u8| match byte {
         b'0'..=b'9' => Some(byte - b'0'),
@@ -190,9 +194,6 @@ pub fn read_hex(text: &str) -> Option<Vec<u8>> {
         [high, low] => Some(digit(*high)? << 4 | digit(*low)?),
         _ => None,
     });
-    if text.is_empty() {
-        return None;
-    }
     bytes.collect()
 }
 

@@ -294,12 +294,16 @@ fn read_verdict(text: &[u8]) -> Option<u8> {
 
 /// A numeral; one beyond the type is beyond every number that a row can show.
 fn read_numeral(text: &[u8]) -> Option<u64> {
-    let bare = text.iter().all(u8::is_ascii_digit) && (text == b"0" || !text.starts_with(b"0"));
-    if bare {
-        std::str::from_utf8(text).ok()?.parse().ok()
-    } else {
-        None
+    let leading_zero = text.len() > 1 && text[0] == b'0';
+    if text.is_empty() || leading_zero {
+        return None;
     }
+    let mut number: u64 = 0;
+    for digit in text {
+        let value = digit.is_ascii_digit().then(|| u64::from(digit - b'0'))?;
+        number = number.checked_mul(10)?.checked_add(value)?;
+    }
+    Some(number)
 }
 
 #[cfg(test)]

@@ -103,7 +103,8 @@ fn compare(run: &Run) -> Result<String, String> {
 /// One batch: the program answers while the model does.
 fn compare_batch(run: &Run, first: u64, next: u64, found: &mut Found) -> Result<(), String> {
     let asked = make_batch(run, first, next);
-    let input: Vec<u8> = asked.iter().flat_map(|asked| [asked.line.as_slice(), b"\n"].concat()).collect();
+    let lines: Vec<&[u8]> = asked.iter().flat_map(|asked| [asked.line.as_slice(), b"\n"]).collect();
+    let input = lines.concat();
     let (answers, expected) = thread::scope(|scope| {
         let program = scope.spawn(|| answers_of(&run.program, &input));
         let expected: Vec<String> = asked.iter().map(|asked| case::answer(&asked.line)).collect();

@@ -7,8 +7,8 @@ use crate::csv::Field;
 use crate::day::{Day, Running};
 use crate::table::{Kind, Range, Schedule, Supply};
 
-/// The refusals of a study.
-pub const NUMBERS: [u64; 14] = [1, 2, 3, 4, 5, 6, 7, 8, 9, 10, 20, 21, 22, 24];
+/// The refusals of a study, those most often that can come about in the most ways.
+pub const NUMBERS: [u64; 20] = [1, 1, 2, 2, 3, 3, 3, 3, 4, 5, 6, 6, 7, 8, 9, 10, 20, 21, 22, 24];
 
 /// Puts a fault into the rows or the day. The numbers 1 to 4 are faults of the text instead.
 pub fn spoil_draft(number: u64, draft: &mut Draft, random: &mut Random) {
@@ -18,7 +18,7 @@ pub fn spoil_draft(number: u64, draft: &mut Draft, random: &mut Random) {
         6 => set_schedules_at_odds(draft, random),
         7 => add_stray(draft, random),
         8 => drop_schedules(draft, random),
-        9 => drop_hour(draft, random),
+        9 => drop_hours(draft, random),
         20 => draft.day.hour = Some(random.between(draft.constraint.hour, 23)),
         21 => take_cost_schedules(draft, random),
         22 => fill_day(draft, random),
@@ -138,7 +138,14 @@ fn drop_schedules(draft: &mut Draft, random: &mut Random) {
     draft.schedules.retain(|row| row.unit != one && row.unit != two);
 }
 
-/// 9: a schedule without a needed hour.
+/// 9: schedules without a needed hour.
+fn drop_hours(draft: &mut Draft, random: &mut Random) {
+    for _ in 0..random.between(1, 3) {
+        drop_hour(draft, random);
+    }
+}
+
+/// A schedule without a needed hour.
 fn drop_hour(draft: &mut Draft, random: &mut Random) {
     if draft.schedules.is_empty() {
         return;
@@ -261,40 +268,43 @@ fn spoil_header(header: &mut [Field], random: &mut Random) {
 fn spoil_field(sheet: &mut Sheet, random: &mut Random) {
     let Some(place) = sheet.some_row(random) else { return };
     let width = sheet.records[place].len().min(sheet.table.columns.len());
-    let column = random.index(width);
+    let last = random.once_in(4);
+    let column = if last { width - 1 } else { random.index(width) };
     let field = &mut sheet.records[place][column];
     *field = match sheet.table.columns[column].range {
         Range::Kind => {
             random.pick::<&[u8]>(&[b"m", b"c", b"X", b"MC", b"", b" M", b"M ", b"1", b"\"M\""]).to_vec()
         }
-        Range::Numeral(min, max) if random.percent(50) => out_of_range(min, max, field, random),
+        Range::Numeral(min, max) if random.percent(60) => out_of_range(min, max, field, random),
         Range::Numeral(..) => ill_formed(field, random),
     };
 }
 
-/// A well-formed numeral outside the range, often one that wraps back into it.
+/// A well-formed numeral outside the range, right beside it or one that wraps back into it.
 fn out_of_range(min: i64, max: i64, field: &Field, random: &mut Random) -> Field {
     let value: i128 = String::from_utf8_lossy(field).parse().unwrap_or(1);
-    let modulus: i128 = random.pick(&[1 << 8, 1 << 16, 1 << 31, 1 << 32, 1 << 63, 1 << 64, 3 << 64]);
-    match random.between(0, 5) {
-        0 => (max + 1).to_string(),
-        1 if min != 0 => (min - 1).to_string(),
-        2 => "9".repeat(random.between(7, 60) as usize),
-        3 => format!("{}0", max),
-        _ => (value + modulus).to_string(),
-    }
-    .into_bytes()
+    let modulus: i128 = random.pick(&[1 << 8, 1 << 16, 1 << 31, 1 << 32, 1 << 63, 1 << 64, 1 << 64, 3 << 64]);
+    let number = match random.between(0, 9) {
+        0..=3 => i128::from(max) + 1,
+        4..=5 => i128::from(min) - 1,
+        6 => i128::from(max) * 10,
+        7 => return b"9".repeat(random.between(7, 60) as usize),
+        _ => value + modulus,
+    };
+    number.to_string().into_bytes()
 }
 
 /// The field in a form that no numeral has.
 fn ill_formed(field: &Field, random: &mut Random) -> Field {
     let before: &[u8] =
-        random.pick(&[b"0", b"+", b"-", b" ", b"--", b"-0", b"00", b"\"", b",", b"\r\n", b"x"]);
+        random.pick(&[b"0", b"+", b"-", b" ", b"-0", b"--", b"00", b"\"", b",", b"\r\n", b"x"]);
     let after: &[u8] = random.pick(&[b" ", b"x", b".0", b"e1", b"\"", b",", b"\n", b"-", b"_0"]);
-    match random.between(0, 4) {
+    match random.between(0, 9) {
         0 => Field::new(),
         1 => b"-0".to_vec(),
-        2 => [field.as_slice(), after].concat(),
+        2 => [b"+", field.as_slice()].concat(),
+        3 => [b"0", field.as_slice()].concat(),
+        4..=6 => [field.as_slice(), after].concat(),
         _ => [before, field.as_slice()].concat(),
     }
 }

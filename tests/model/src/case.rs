@@ -1,0 +1,310 @@
+//! Cases as lines: what a program is asked, one a line, and what it answers, one a line.
+//!
+//! ```text
+//! study DAY C S H BUFLEN   ok ANSWERHEX DAY   or   no NUMBER FILE PLACE
+//! release DAY UNIT         ok DAY             or   no NUMBER FILE PLACE
+//! test NEED PLACE a,b,c    ok LEFT P   or   ok LEFT F   or   no 11 0 0
+//! check C S H              NUMBER
+//! ```
+//!
+//! DAY is `-` for a fresh day or `H;u:k:s,u:k:s`: H the hour or `n` for none, u a unit, k its kind, s
+//! its schedule. C, S and H are the files in lower-case hex, `.` for an empty file; `.` stands for no
+//! amounts too. Whatever isn't in this form is answered by `unreadable case`.
+
+use std::fmt::{self, Display, Formatter, Write};
+
+use crate::check::check;
+use crate::day::{Day, Running};
+use crate::pivotal::test;
+use crate::refusal::Refusal;
+use crate::rules::Files;
+use crate::table::Kind;
+
+/// The longest buffer that a case may lend.
+pub const LONGEST_BUFFER: u64 = 4_096;
+
+/// The most units of a day, and amounts of a test, that a case may have.
+pub const LONGEST_LIST: usize = 1_000;
+
+/// The answer to a line that can't be read.
+pub const UNREADABLE: &str = "unreadable case";
+
+/// The answer of an engine that changed a byte it had to leave alone.
+pub const SPOILT: &str = "spoilt";
+
+/// The bytes of constraint, supply and schedules.
+#[derive(Clone, Debug, PartialEq, Eq)]
+pub struct ThreeFiles(pub [Vec<u8>; 3]);
+
+impl ThreeFiles {
+    /// The files as an engine takes them.
+    pub fn lend(&self) -> Files<'_> {
+        let [constraint, supply, schedules] = &self.0;
+        Files { constraint, supply, schedules }
+    }
+}
+
+/// What a line asks.
+#[derive(Clone, Debug, PartialEq, Eq)]
+pub enum Case {
+    Study { day: Day, files: ThreeFiles, buffer: u64 },
+    Release { day: Day, unit: u64 },
+    Test { need: u64, place: u64, amounts: Vec<u64> },
+    Check { files: ThreeFiles },
+}
+
+/// The answer to a line.
+pub fn answer(line: &[u8]) -> String {
+    match Case::read(line) {
+        Some(case) => case.answer(),
+        None => UNREADABLE.to_string(),
+    }
+}
+
+impl Case {
+    /// The case that a line asks, if it is in the form.
+    pub fn read(line: &[u8]) -> Option<Case> {
+        let line = std::str::from_utf8(line).ok()?;
+        let words: Vec<&str> = line.split(' ').collect();
+        match words[..] {
+            ["study", day, c, s, h, buffer] => Some(Case::Study {
+                day: read_day(day)?,
+                files: read_files([c, s, h])?,
+                buffer: read_number(buffer).filter(|&length| length <= LONGEST_BUFFER)?,
+            }),
+            ["release", day, unit] => Some(Case::Release { day: read_day(day)?, unit: read_number(unit)? }),
+            ["test", need, place, amounts] => Some(Case::Test {
+                need: read_number(need)?,
+                place: read_number(place)?,
+                amounts: read_amounts(amounts)?,
+            }),
+            ["check", c, s, h] => Some(Case::Check { files: read_files([c, s, h])? }),
+            _ => None,
+        }
+    }
+
+    /// What the model answers.
+    pub fn answer(self) -> String {
+        match self {
+            Case::Study { day, files, buffer } => answer_study(day, &files, buffer),
+            Case::Release { day, unit } => match day.release(unit) {
+                (day, Ok(())) => format!("ok {day}"),
+                (_, Err(refusal)) => refusal.to_string(),
+            },
+            Case::Test { need, place, amounts } => match test(&amounts, place, need) {
+                Ok(tested) => format!("ok {} {}", tested.left, tested.verdict.letter()),
+                Err(refusal) => refusal.to_string(),
+            },
+            Case::Check { files } => check(&files.lend()).to_string(),
+        }
+    }
+}
+
+/// A study in a buffer that was filled with a pattern first.
+fn answer_study(day: Day, files: &ThreeFiles, buffer: u64) -> String {
+    let pattern: Vec<u8> = (0..buffer).map(|place| (place * 7 + 3) as u8).collect();
+    let mut lent = pattern.clone();
+    let (next, result) = day.study(&files.lend(), &mut lent);
+    let written = *result.as_ref().unwrap_or(&0);
+    if lent[written..] != pattern[written..] {
+        return SPOILT.to_string();
+    }
+    match result {
+        Ok(length) => format!("ok {} {next}", Hex(&lent[..length])),
+        Err(refusal) => refusal.to_string(),
+    }
+}
+
+impl Display for Refusal {
+    fn fmt(&self, out: &mut Formatter) -> fmt::Result {
+        write!(out, "no {} {} {}", self.number, self.file, self.place)
+    }
+}
+
+impl Display for Day {
+    fn fmt(&self, out: &mut Formatter) -> fmt::Result {
+        if *self == Day::fresh() {
+            return write!(out, "-");
+        }
+        match self.hour {
+            Some(hour) => write!(out, "{hour};")?,
+            None => write!(out, "n;")?,
+        }
+        for (index, Running { unit, kind, schedule }) in self.running.iter().enumerate() {
+            let comma = if index == 0 { "" } else { "," };
+            write!(out, "{comma}{unit}:{}:{schedule}", kind.letter())?;
+        }
+        Ok(())
+    }
+}
+
+impl Display for ThreeFiles {
+    fn fmt(&self, out: &mut Formatter) -> fmt::Result {
+        let [constraint, supply, schedules] = &self.0;
+        write!(out, "{} {} {}", Hex(constraint), Hex(supply), Hex(schedules))
+    }
+}
+
+impl Display for Case {
+    fn fmt(&self, out: &mut Formatter) -> fmt::Result {
+        match self {
+            Case::Study { day, files, buffer } => write!(out, "study {day} {files} {buffer}"),
+            Case::Release { day, unit } => write!(out, "release {day} {unit}"),
+            Case::Test { need, place, amounts } if amounts.is_empty() => write!(out, "test {need} {place} ."),
+            Case::Test { need, place, amounts } => {
+                let amounts: Vec<String> = amounts.iter().map(u64::to_string).collect();
+                write!(out, "test {need} {place} {}", amounts.join(","))
+            }
+            Case::Check { files } => write!(out, "check {files}"),
+        }
+    }
+}
+
+/// Bytes in lower-case hex, `.` for none.
+pub struct Hex<'a>(pub &'a [u8]);
+
+impl Display for Hex<'_> {
+    fn fmt(&self, out: &mut Formatter) -> fmt::Result {
+        if self.0.is_empty() {
+            return out.write_str(".");
+        }
+        let digit = |value: u8| char::from(b"0123456789abcdef"[usize::from(value)]);
+        for byte in self.0 {
+            out.write_char(digit(byte >> 4))?;
+            out.write_char(digit(byte & 15))?;
+        }
+        Ok(())
+    }
+}
+
+/// The bytes that lower-case hex stands for.
+pub fn read_hex(text: &str) -> Option<Vec<u8>> {
+    match text {
+        "" => return None,
+        "." => return Some(Vec::new()),
+        _ => {}
+    }
+    let digit = |byte: u8| match byte {
+        b'0'..=b'9' => Some(byte - b'0'),
+        b'a'..=b'f' => Some(byte - b'a' + 10),
+        _ => None,
+    };
+    let pairs = text.as_bytes().chunks(2);
+    let bytes = pairs.map(|pair| match pair {
+        [high, low] => Some(digit(*high)? << 4 | digit(*low)?),
+        _ => None,
+    });
+    bytes.collect()
+}
+
+/// A numeral below 2^64, with no sign and no leading zero.
+fn read_number(text: &str) -> Option<u64> {
+    let leading_zero = text.len() > 1 && text.starts_with('0');
+    if leading_zero || !text.bytes().all(|byte| byte.is_ascii_digit()) {
+        return None;
+    }
+    text.parse().ok()
+}
+
+fn read_files(words: [&str; 3]) -> Option<ThreeFiles> {
+    let [c, s, h] = words;
+    Some(ThreeFiles([read_hex(c)?, read_hex(s)?, read_hex(h)?]))
+}
+
+fn read_amounts(text: &str) -> Option<Vec<u64>> {
+    if text == "." {
+        return Some(Vec::new());
+    }
+    let amounts: Vec<u64> = text.split(',').map(read_number).collect::<Option<_>>()?;
+    (amounts.len() <= LONGEST_LIST).then_some(amounts)
+}
+
+fn read_day(text: &str) -> Option<Day> {
+    if text == "-" {
+        return Some(Day::fresh());
+    }
+    let (hour, units) = text.split_once(';')?;
+    let hour = if hour == "n" { None } else { Some(read_number(hour)?) };
+    let running: Vec<Running> = match units {
+        "" => Vec::new(),
+        units => units.split(',').map(read_running).collect::<Option<_>>()?,
+    };
+    (running.len() <= LONGEST_LIST).then_some(Day { hour, running })
+}
+
+fn read_running(text: &str) -> Option<Running> {
+    let words: Vec<&str> = text.split(':').collect();
+    let [unit, kind, schedule] = words[..] else { return None };
+    Some(Running {
+        unit: read_number(unit)?,
+        kind: Kind::read(kind.as_bytes())?,
+        schedule: read_number(schedule)?,
+    })
+}
+
+#[cfg(test)]
+mod tests {
+    use super::*;
+
+    fn ask(line: &str) -> String {
+        answer(line.as_bytes())
+    }
+
+    #[test]
+    fn days_read_and_print() {
+        assert_eq!(ask("release 5;1:M:2,7:C:9 1"), "ok 5;7:C:9");
+        assert_eq!(ask("release 5;7:C:9 7"), "ok 5;");
+        assert_eq!(ask("release n;7:C:9 7"), "ok -");
+        assert_eq!(ask("release - 7"), "no 23 0 0");
+        assert_eq!(ask("release n; 7"), "no 23 0 0");
+        assert_eq!(ask("release 24; 7"), "no 24 0 0");
+        assert_eq!(ask("release 5;18446744073709551615:C:1 7"), "no 24 0 0");
+    }
+
+    #[test]
+    fn tests_and_checks() {
+        assert_eq!(ask("test 2 3 4,3,2,1"), "ok 2 P");
+        assert_eq!(ask("test 3 3 4,3,2,1"), "ok 2 F");
+        assert_eq!(ask("test 3 0 ."), "no 11 0 0");
+        assert_eq!(ask("check . . ."), "2");
+        assert_eq!(ask("study - . . . 4096"), "no 2 1 0");
+    }
+
+    #[test]
+    fn what_is_not_in_the_form_is_unreadable() {
+        let lines = [
+            "",
+            " ",
+            "study",
+            "study - . . .",
+            "study - . . . 4097",
+            "study - . . . 1 1",
+            "study - 0 . . 1",
+            "study - 0g . . 1",
+            "release 5;18446744073709551616:C:1 7",
+            "release 5;1:X:1 7",
+            "release 5;1:M 7",
+            "release 5 7",
+            "release 5;1:M:1, 7",
+            "test 1 0 18446744073709551616",
+            "test 1 0 1,,2",
+            "test 1 0",
+            "test -1 0 1",
+            "check . .",
+            "Check . . .",
+        ];
+        for line in lines {
+            assert_eq!(ask(line), UNREADABLE, "{line}");
+        }
+        assert_eq!(answer(b"check \xff . ."), UNREADABLE);
+    }
+
+    #[test]
+    fn cases_print_as_they_are_read() {
+        for line in
+            ["study - 0aff . 00 12", "release 7;1:M:2,3:C:4 5", "test 1 2 3,4", "test 0 0 .", "check . . 61"]
+        {
+            assert_eq!(Case::read(line.as_bytes()).unwrap().to_string(), line);
+        }
+    }
+}

@@ -1,0 +1,291 @@
+//! Drafts: studies that nothing refuses, of every size, with many ties and edges in them.
+
+use super::random::Random;
+use super::supply::{make_market, Size};
+use crate::day::{Day, Running};
+use crate::market::capped;
+use crate::table::{Constraint, Kind, Schedule, Supply};
+
+/// The most rows of the schedules file.
+const SCHEDULE_ROWS: usize = 1024;
+
+/// The rows of three files and the day that they are studied on.
+pub struct Draft {
+    pub constraint: Constraint,
+    pub supply: Vec<Supply>,
+    pub schedules: Vec<Schedule>,
+    pub day: Day,
+}
+
+impl Draft {
+    /// A draft of some size.
+    pub fn make(random: &mut Random) -> Draft {
+        let size = Size::make(random);
+        let (relief, cutoff, supply) = make_market(size, random);
+        let hour = make_hour(random);
+        let mut draft = Draft {
+            constraint: Constraint { hour, relief, cutoff },
+            supply,
+            schedules: Vec::new(),
+            day: Day::fresh(),
+        };
+        draft.schedules = make_schedules(&draft.units(), hour, random);
+        draft.day = make_day(&draft, random);
+        draft.mix(random);
+        draft
+    }
+
+    /// A draft at every limit, with long numerals: its schedules can fill 65,536 bytes.
+    pub fn make_brimming(random: &mut Random) -> Draft {
+        let (relief, cutoff, mut supply) = make_market(Size::LARGEST, random);
+        let mut draft = Draft {
+            constraint: Constraint { hour: 8, relief, cutoff },
+            supply: Vec::new(),
+            schedules: Vec::new(),
+            day: Day::fresh(),
+        };
+        let mut units: Vec<u64> = supply.iter().map(|row| row.unit).collect();
+        units.sort();
+        units.dedup();
+        for row in &mut supply {
+            row.unit = 9_000 + units.iter().position(|&unit| unit == row.unit).unwrap_or(0) as u64;
+        }
+        draft.supply = supply;
+        for unit in draft.units() {
+            let schedule = random.between(10, 99);
+            let (kind, startup) = (random.pick(&[Kind::M, Kind::C]), random.between(10_000_000, 99_999_999));
+            draft.schedules.extend((8..=23).map(|hour| Schedule {
+                unit,
+                schedule,
+                kind,
+                hour,
+                ecomin: random.between(10_000, 99_999),
+                price: random.between(100_000, 200_000),
+                noload: random.between(10_000_000, 99_999_999),
+                startup,
+                minrun: 16,
+            }));
+        }
+        draft
+    }
+
+    /// The units of the supply rows, by rising number.
+    pub fn units(&self) -> Vec<u64> {
+        let mut units: Vec<u64> = self.supply.iter().map(|row| row.unit).collect();
+        units.sort();
+        units.dedup();
+        units
+    }
+
+    /// A unit that no row has.
+    pub fn other_unit(&self, random: &mut Random) -> u64 {
+        let taken = |unit: u64| self.supply.iter().any(|row| row.unit == unit);
+        loop {
+            let unit = random.between(1, 9_999);
+            if !taken(unit) {
+                return unit;
+            }
+        }
+    }
+
+    /// Sometimes puts the rows in another order.
+    fn mix(&mut self, random: &mut Random) {
+        if random.percent(35) {
+            random.shuffle(&mut self.supply);
+        }
+        if random.percent(35) {
+            random.shuffle(&mut self.schedules);
+        }
+        if random.once_in(10) {
+            self.schedules.sort_by_key(|row| row.hour);
+        }
+    }
+}
+
+/// An hour of the day, the last ones often.
+fn make_hour(random: &mut Random) -> u64 {
+    match random.between(0, 9) {
+        0 => 0,
+        1 => 23,
+        2 => 22,
+        3 => random.between(18, 23),
+        _ => random.between(0, 23),
+    }
+}
+
+/// Schedules for every unit, in the room there is.
+fn make_schedules(units: &[u64], hour: u64, random: &mut Random) -> Vec<Schedule> {
+    let mut rows = Vec::new();
+    let brief = random.percent(75);
+    for (index, &unit) in units.iter().enumerate() {
+        let room = (SCHEDULE_ROWS - rows.len()) / (units.len() - index);
+        rows.extend(make_unit(unit, hour, room, brief, random));
+    }
+    rows
+}
+
+/// The schedules of one unit, by number.
+fn make_unit(unit: u64, hour: u64, room: usize, brief: bool, random: &mut Random) -> Vec<Schedule> {
+    let mut rows: Vec<Schedule> = Vec::new();
+    let count = random.pick(&[1, 2, 2, 3, 4]);
+    let mut numbers = make_numbers(count, random);
+    let market_based = if random.percent(85) { random.index(count) } else { count };
+    let base = random.scaled(100_000);
+    let mut previous = None;
+    while let Some(number) = numbers.pop() {
+        let kind = if numbers.len() == market_based { Kind::M } else { Kind::C };
+        let mut first = make_schedule(unit, number, kind, hour, base, brief, random);
+        if let (Some(twin), true) = (previous, random.percent(40)) {
+            first = make_twin(&first, &twin, random);
+        }
+        let schedule = make_hours(&first, hour, room - rows.len(), random);
+        if !schedule.is_empty() {
+            previous = Some(first);
+            rows.extend(schedule);
+        }
+    }
+    rows
+}
+
+/// Numbers for a unit's schedules.
+fn make_numbers(count: usize, random: &mut Random) -> Vec<u64> {
+    if random.percent(50) {
+        let mut numbers: Vec<u64> = (1..=count as u64).collect();
+        random.shuffle(&mut numbers);
+        numbers
+    } else {
+        random.distinct(count, 1, 99)
+    }
+}
+
+/// The row of a schedule at the study hour.
+fn make_schedule(
+    unit: u64,
+    schedule: u64,
+    kind: Kind,
+    hour: u64,
+    base: u64,
+    brief: bool,
+    random: &mut Random,
+) -> Schedule {
+    let price = match random.between(0, 9) {
+        0 => random.pick(&[0, 9, 10, 99_999, 100_001, 189_999, 190_000, 200_000]),
+        1 => random.scaled(200_000),
+        _ => base * random.between(60, 160) / 100,
+    };
+    Schedule {
+        unit,
+        schedule,
+        kind,
+        hour,
+        ecomin: if random.once_in(20) { random.pick(&[0, 1, 100_000]) } else { random.between(1, 2_000) },
+        price,
+        noload: make_charge(random),
+        startup: make_charge(random),
+        minrun: if brief { random.pick(&[1, 1, 2, 3]) } else { random.pick(&[1, 2, 4, 8, 23, 24]) },
+    }
+}
+
+/// A charge for no load or for starting.
+fn make_charge(random: &mut Random) -> u64 {
+    match random.between(0, 9) {
+        0..=3 => 0,
+        4 => 100_000_000,
+        _ => random.scaled(2_000_000),
+    }
+}
+
+/// A schedule that costs what another does, or all but: the price of an M row is the capped price of
+/// a C row.
+fn make_twin(first: &Schedule, twin: &Schedule, random: &mut Random) -> Schedule {
+    let mut schedule = Schedule { unit: first.unit, schedule: first.schedule, kind: first.kind, ..*twin };
+    match (schedule.kind, twin.kind) {
+        (Kind::M, Kind::C) => schedule.price = capped(twin.price),
+        (Kind::C, Kind::M) => schedule.price = uncapped(twin.price),
+        _ => {}
+    }
+    match random.between(0, 9) {
+        0 => schedule.noload = (schedule.noload + 1).min(100_000_000),
+        1 => schedule.startup = (schedule.startup + 1).min(100_000_000),
+        2 => schedule.price = (schedule.price + 1).min(200_000),
+        3 => schedule.minrun = random.between(1, 3),
+        _ => {}
+    }
+    schedule
+}
+
+/// The cost whose capped offer comes nearest to an offer from below.
+pub fn uncapped(offer: u64) -> u64 {
+    let mut cost = offer * 10 / 11;
+    while cost < 200_000 && capped(cost + 1) <= offer {
+        cost += 1;
+    }
+    cost
+}
+
+/// A row for each hour of the schedule's run and for some others, as far as there is room for them;
+/// no row at all where there is no room for the run.
+fn make_hours(first: &Schedule, hour: u64, room: usize, random: &mut Random) -> Vec<Schedule> {
+    let flat = random.percent(50);
+    let last = (hour + first.minrun - 1).min(23);
+    let mut minrun = first.minrun;
+    let mut hours: Vec<u64> = (hour..=last).collect();
+    if hours.len() > room {
+        hours.truncate(room);
+        minrun = room as u64;
+    }
+    let others = if random.percent(25) { random.between(0, 3) } else { 0 };
+    for _ in 0..others {
+        let other = random.between(0, 23);
+        if hours.len() < room && !hours.contains(&other) {
+            hours.push(other);
+        }
+    }
+    let row = |other: u64| {
+        let mut row = Schedule { hour: other, minrun, ..*first };
+        if other != hour && !flat {
+            row.price = row.price * random.between(50, 150) / 100 % 200_001;
+            row.noload = row.noload * random.between(50, 100) / 100;
+        }
+        row
+    };
+    hours.into_iter().map(row).collect()
+}
+
+/// A day that the draft can be studied on.
+fn make_day(draft: &Draft, random: &mut Random) -> Day {
+    if random.percent(30) {
+        return Day::fresh();
+    }
+    let study_hour = draft.constraint.hour;
+    let hour = match random.between(0, 9) {
+        0..=1 => None,
+        2..=4 => Some(study_hour),
+        _ => Some(random.between(0, study_hour)),
+    };
+    let mut running = Vec::new();
+    let busy = random.pick(&[0, 30, 60, 100]);
+    let units = draft.units();
+    for &unit in &units {
+        if random.percent(busy) {
+            let has_c = draft.schedules.iter().any(|row| row.unit == unit && row.kind == Kind::C);
+            let kind = if has_c { random.pick(&[Kind::M, Kind::C]) } else { Kind::M };
+            running.push(Running { unit, kind, schedule: random.between(1, 99) });
+        }
+    }
+    let room = (Day::UNITS - units.len()) as u64;
+    let others = if random.once_in(12) { room } else { random.between(0, 4).min(room) };
+    running.extend(others_running(others as usize, &units, random));
+    running.sort_by_key(|running| running.unit);
+    Day { hour, running }
+}
+
+/// So many running units beside those of the files.
+pub fn others_running(count: usize, units: &[u64], random: &mut Random) -> Vec<Running> {
+    let mut numbers = random.distinct(count + units.len(), 1, 9_999);
+    numbers.retain(|unit| !units.contains(unit));
+    numbers.truncate(count);
+    let mut running =
+        |unit| Running { unit, kind: random.pick(&[Kind::M, Kind::C]), schedule: random.between(1, 99) };
+    numbers.into_iter().map(|unit| running(unit)).collect()
+}

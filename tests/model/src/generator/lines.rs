@@ -1,0 +1,138 @@
+//! Lone tests, releases, and lines that can't be read.
+
+use super::draft::others_running;
+use super::faults::spoil_day;
+use super::random::Random;
+use super::Line;
+use crate::case::Case;
+use crate::day::Day;
+use crate::pivotal::LARGEST_AMOUNT;
+
+/// A lone test, often with the need at what is left.
+pub fn make_test(random: &mut Random) -> Case {
+    let count = random.pick(&[0, 1, 2, 3, 3, 4, 4, 5, 5, 6, 8, 16, 31, 32, 32, 33, 64]);
+    let count = if random.once_in(100) { 1_000 } else { count };
+    let most = random.pick(&[1, 4, 10, 1_000, LARGEST_AMOUNT, LARGEST_AMOUNT]);
+    let mut amounts: Vec<u64> = (0..count).map(|_| random.scaled(most)).collect();
+    if count > 0 && random.percent(25) {
+        let place = random.index(count);
+        amounts[place] = random.pick(&[
+            LARGEST_AMOUNT,
+            LARGEST_AMOUNT,
+            LARGEST_AMOUNT,
+            LARGEST_AMOUNT - 1,
+            LARGEST_AMOUNT + 1,
+            u64::MAX,
+        ]);
+    }
+    if random.once_in(20) {
+        amounts.iter_mut().for_each(|amount| *amount = LARGEST_AMOUNT);
+    }
+    let place = match random.between(0, 19) {
+        0 => count as u64,
+        1 => count as u64 + 1,
+        2 => random.pick(&[u64::MAX, 1 << 32, 256]),
+        _ => random.between(0, (count as u64).max(1) - 1),
+    };
+    let need = make_need(&amounts, place, random);
+    Case::Test { need, place, amounts }
+}
+
+/// A need at or beside what the test leaves, or any other.
+fn make_need(amounts: &[u64], place: u64, random: &mut Random) -> u64 {
+    let others = amounts.iter().enumerate().filter(|(index, _)| *index as u64 != place);
+    let mut others: Vec<u64> = others.map(|(_, &amount)| amount).collect();
+    others.sort();
+    let left: u64 = others.iter().rev().skip(2).fold(0, |sum, &amount| sum.saturating_add(amount));
+    match random.between(0, 9) {
+        0 => 0,
+        1 => u64::MAX,
+        2 => random.next(),
+        3..=5 => left,
+        6..=7 => left.saturating_add(1),
+        8 => left.saturating_sub(1),
+        _ => random.scaled(LARGEST_AMOUNT),
+    }
+}
+
+/// A release, most often of a running unit.
+pub fn make_release(random: &mut Random) -> Case {
+    let count = random.pick(&[0, 1, 1, 2, 3, 10, 63, 64]);
+    let mut running = others_running(count, &[], random);
+    running.sort_by_key(|running| running.unit);
+    let hour = if random.percent(30) { None } else { Some(random.between(0, 23)) };
+    let mut day = Day { hour, running };
+    let unit = if count > 0 && random.percent(60) {
+        random.pick(&day.running).unit
+    } else {
+        random.pick(&[0, 1, 9_999, 10_000, 65_537, u64::MAX])
+    };
+    if random.percent(20) {
+        spoil_day(&mut day, random);
+    }
+    Case::Release { day, unit }
+}
+
+/// A line that can't be read.
+pub fn make_unreadable(random: &mut Random) -> Line {
+    // Each with whether every reader takes it for unreadable.
+    let (line, common): (&str, bool) = random.pick(&[
+        ("", false),
+        ("study - . . . 4097", false),
+        ("study - . . . 65536", false),
+        ("study - . . . 18446744073709551616", true),
+        ("release 18446744073709551616; 1", false),
+        ("release 5;18446744073709551616:M:1 1", false),
+        ("release 5;18446744073709551617:M:1 1", false),
+        ("release 5;1:M:18446744073709551617 1", false),
+        ("release 5;1:M:1 18446744073709551617", false),
+        ("release 5;1:M:1 99999999999999999999999999999999", false),
+        ("study 5;1:M:18446744073709551617 . . . 47", false),
+        ("test 18446744073709551616 0 1,2", true),
+        ("test 0 18446744073709551616 1,2", true),
+        ("test 0 0 18446744073709551616,2", true),
+        ("test 0 0 1,18446744073709551617", true),
+        ("study", true),
+        ("study - . . .", true),
+        ("study - . .", true),
+        ("study - . . . x", true),
+        ("study - . . . -1", true),
+        ("study - 0 . . 47", true),
+        ("study - . 686 . 47", true),
+        ("study - . . 6g 47", true),
+        ("study - 68:6 . . 47", true),
+        ("study x . . . 47", true),
+        ("study 5 . . . 47", true),
+        ("study ; . . . 47", true),
+        ("study 5;1 . . . 47", true),
+        ("study 5;1:M . . . 47", true),
+        ("study 5;1:X:1 . . . 47", true),
+        ("study 5;1:m:1 . . . 47", true),
+        ("study 5;1:MC:1 . . . 47", true),
+        ("study 5;x:M:1 . . . 47", true),
+        ("study 5;1:M:-1 . . . 47", true),
+        ("release", true),
+        ("release -", true),
+        ("release - x", true),
+        ("release - -1", true),
+        ("release 5;1:M:x 1", true),
+        ("test", true),
+        ("test 1", true),
+        ("test 1 0", true),
+        ("test 1 0 x", true),
+        ("test 1 x 1", true),
+        ("test x 0 1", true),
+        ("test 1 0 1,x", true),
+        ("test 1 0 1,,2", true),
+        ("test 1 0 -1", true),
+        ("check", true),
+        ("check . .", true),
+        ("check . . 1", true),
+        ("check x . .", true),
+        ("studies - . . . 47", true),
+        ("5", true),
+        ("-", true),
+        (".", true),
+    ]);
+    Line { bytes: line.as_bytes().to_vec(), common }
+}

@@ -1,0 +1,138 @@
+//! Cases made up from a seed: studies and checks of every size and with every refusal, releases,
+//! lone tests, and lines that can't be read. The case of a seed and an index is always the same.
+
+mod draft;
+mod faults;
+mod lines;
+mod random;
+mod sheet;
+mod supply;
+
+use crate::answer::LONGEST;
+use crate::case::{Case, ThreeFiles, LONGEST_BUFFER};
+use crate::day::Day;
+use draft::Draft;
+use faults::{spoil_draft, spoil_sheet, NUMBERS};
+use random::Random;
+use sheet::{damage, disturb, Sheet, LARGEST_FILE};
+
+/// The seed and the number of the cases that every change is held against.
+pub const GATE_SEED: u64 = 20_260_701;
+pub const GATE_CASES: u64 = 20_000;
+
+/// A case as a line, without its end.
+pub struct Line {
+    pub bytes: Vec<u8>,
+    /// Whether every reader of such lines is bound to read it as this one does: one that takes larger
+    /// buffers, skips empty lines or clamps numbers answers otherwise without being wrong on a study.
+    pub common: bool,
+}
+
+impl Line {
+    fn of(case: Case) -> Line {
+        Line { bytes: case.to_string().into_bytes(), common: true }
+    }
+}
+
+/// The case of a seed and an index.
+pub fn make(seed: u64, index: u64) -> Line {
+    let random = &mut Random::of(seed, index);
+    match random.between(0, 999) {
+        0..=779 => Line::of(make_study(random)),
+        780..=839 => Line::of(make_check(random)),
+        840..=909 => Line::of(lines::make_test(random)),
+        910..=969 => Line::of(lines::make_release(random)),
+        _ => lines::make_unreadable(random),
+    }
+}
+
+/// A study: most accepted, some with one fault, some with two.
+fn make_study(random: &mut Random) -> Case {
+    let faults = make_faults(random);
+    let (day, files) = make_files(&faults, random);
+    let buffer = make_buffer(faults.contains(&10), &day, &files, random);
+    Case::Study { day, files, buffer }
+}
+
+/// A check of files as a study has them.
+fn make_check(random: &mut Random) -> Case {
+    let faults = make_faults(random);
+    let (_, files) = make_files(&faults, random);
+    Case::Check { files }
+}
+
+/// None, one or two numbers of refusals.
+fn make_faults(random: &mut Random) -> Vec<u64> {
+    let count = random.pick(&[0, 0, 0, 0, 0, 0, 1, 1, 1, 2, 2]);
+    (0..count).map(|_| random.pick(&NUMBERS)).collect()
+}
+
+/// The files with the faults in them, and the day.
+fn make_files(faults: &[u64], random: &mut Random) -> (Day, ThreeFiles) {
+    if random.once_in(400) {
+        return make_brimming(random);
+    }
+    let mut draft = Draft::make(random);
+    for &number in faults {
+        spoil_draft(number, &mut draft, random);
+    }
+    let mut sheets = sheets(&draft);
+    for &number in faults {
+        let file = random.index(3);
+        spoil_sheet(number, &mut sheets[file], random);
+    }
+    let mut files = sheets.map(|sheet| sheet.write(random));
+    for _ in faults.iter().filter(|&&number| number == 1) {
+        let file = random.index(3);
+        damage(&mut files[file], random);
+    }
+    if random.once_in(40) {
+        let file = random.index(3);
+        disturb(&mut files[file], random);
+    }
+    (draft.day, ThreeFiles(files))
+}
+
+fn sheets(draft: &Draft) -> [Sheet; 3] {
+    [Sheet::constraint(&draft.constraint), Sheet::supply(&draft.supply), Sheet::schedules(&draft.schedules)]
+}
+
+/// Files of which one is as large as the program takes: schedules that are accepted, or a field that
+/// goes on and on.
+fn make_brimming(random: &mut Random) -> (Day, ThreeFiles) {
+    let draft = Draft::make_brimming(random);
+    let mut sheets = sheets(&draft);
+    let full = if random.percent(50) { Some(sheets[2].write_brimming(random)) } else { None };
+    let mut files = sheets.map(|sheet| sheet.write(random));
+    match full {
+        Some(schedules) => files[2] = schedules,
+        None => {
+            let filler = random.pick(b"0159 ");
+            let file = &mut files[random.index(3)];
+            file.extend(std::iter::repeat_n(filler, LARGEST_FILE.saturating_sub(file.len())));
+        }
+    }
+    (draft.day, ThreeFiles(files))
+}
+
+/// A buffer's length: ample, or right at the answer's own.
+fn make_buffer(short: bool, day: &Day, files: &ThreeFiles, random: &mut Random) -> u64 {
+    if short || random.percent(35) {
+        let mut buffer = [0; LONGEST];
+        let (_, result) = day.clone().study(&files.lend(), &mut buffer);
+        let fitting = result.unwrap_or(LONGEST) as u64;
+        return match random.between(0, 9) {
+            _ if short => random.pick(&[0, 1, 46, 47, fitting - 1, fitting - 1, fitting - 1, fitting / 2]),
+            0 => fitting - 1,
+            1 => fitting + 1,
+            2 => fitting + random.between(2, 50),
+            _ => fitting,
+        };
+    }
+    match random.between(0, 19) {
+        0 => 0,
+        1 => random.between(0, LONGEST_BUFFER),
+        2..=6 => LONGEST as u64,
+        _ => LONGEST_BUFFER,
+    }
+}

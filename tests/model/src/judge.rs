@@ -1,0 +1,371 @@
+//! The judge: any bytes laid beside an answer file, weighed by the words of demand 3.
+//!
+//! It takes the demand at its word and shares nothing with the model but the reading of the files:
+//! every removal is tried, costs are brought to one denominator and sorted, and schedules are
+//! compared one with another. So it is slow, and meant for small studies.
+
+use std::collections::{BTreeMap, BTreeSet};
+
+use crate::day::Day;
+use crate::rules::{Files, Filing};
+use crate::table::{Kind, Schedule, Supply};
+
+/// The largest studies that are judged. Eight units keep the common denominator in its type.
+pub const UNITS: usize = 8;
+pub const SUPPLIERS: usize = 6;
+
+/// The header record of the fixed layout, with its end.
+const HEADER: &[u8] = b"unit,supplier,verdict,left,schedule,kind,cost\r\n";
+
+/// What an accepted study asks of the bytes beside its answer file.
+pub struct Judge {
+    /// "It shows U exactly when eligible supply is short of the relief."
+    short: bool,
+    need: u64,
+    /// By rising number.
+    units: Vec<Unit>,
+}
+
+/// What is asked of one unit's row.
+struct Unit {
+    number: u64,
+    supplier: u64,
+    has_eligible_row: bool,
+    has_relevant_row: bool,
+    /// What each removal leaves.
+    removals: Vec<u64>,
+    schedules: Vec<Offered>,
+    /// The eligible schedules where the unit is exposed, and where it isn't.
+    eligible_exposed: Vec<Offered>,
+    eligible_otherwise: Vec<Offered>,
+}
+
+/// A schedule of a unit, "with its true kind and cost".
+#[derive(Clone, Copy, PartialEq, Eq)]
+pub struct Offered {
+    pub number: u64,
+    pub kind: Kind,
+    pub cost: u64,
+}
+
+/// What a row of the bytes shows.
+struct Shown {
+    unit: u64,
+    supplier: u64,
+    verdict: u8,
+    left: u64,
+    schedule: Offered,
+}
+
+/// Why bytes are rejected.
+pub type Reason = &'static str;
+
+/// Rejects with a reason where something doesn't hold.
+fn hold(condition: bool, reason: Reason) -> Result<(), Reason> {
+    if condition {
+        Ok(())
+    } else {
+        Err(reason)
+    }
+}
+
+impl Judge {
+    /// The judge of a study's files and "the day it was given", or `None` where the files are
+    /// refused or too large to try every removal.
+    pub fn of(files: &Files, day: &Day) -> Option<Judge> {
+        let filing = Filing::read(files).ok()?;
+        if filing.units().len() > UNITS || filing.suppliers().len() > SUPPLIERS {
+            return None;
+        }
+        let need = filing.constraint.relief * 10_000;
+        let eligible = eligible_rows(&filing);
+        let short = supply(&eligible) < need;
+        let relevant = if short { Vec::new() } else { relevant_rows(&eligible, need) };
+        let units = filing.units().into_iter();
+        let unit = |number| Unit::of(number, &filing, &eligible, &relevant, day);
+        Some(Judge { short, need, units: units.map(unit).collect() })
+    }
+
+    /// Accepts bytes, or says what of demand 3 they break.
+    pub fn weigh(&self, bytes: &[u8]) -> Result<(), Reason> {
+        let mut rest = bytes.strip_prefix(HEADER).ok_or("not the header")?;
+        for unit in &self.units {
+            let (row, after) = read_row(rest)?;
+            self.weigh_row(&row, unit)?;
+            rest = after;
+        }
+        hold(rest.is_empty(), "more than one row per unit")
+    }
+
+    /// "The following holds of every row."
+    fn weigh_row(&self, row: &Shown, unit: &Unit) -> Result<(), Reason> {
+        hold(row.unit == unit.number, "not by rising number")?;
+        hold(row.supplier == unit.supplier, "not its supplier")?;
+        hold((row.verdict == b'U') == self.short, "U, or no U, against the eligible supply")?;
+        if row.verdict == b'U' {
+            hold(row.left == 0, "U with something left")?;
+        } else {
+            let fails = unit.removals.iter().any(|&left| left < self.need);
+            hold((row.verdict == b'F') == fails, "F, or P, against the removals")?;
+            hold(unit.removals.contains(&row.left), "an amount that no removal leaves")?;
+            hold(unit.removals.iter().all(|&left| left >= row.left), "a removal leaves less")?;
+        }
+        let eligible = unit.eligible(row.verdict);
+        hold(eligible.contains(&row.schedule), "not an eligible schedule with its kind and cost")?;
+        let mut others = eligible.iter().filter(|other| other.number != row.schedule.number);
+        hold(others.all(|other| comes_after(other, &row.schedule)), "another schedule comes before")
+    }
+
+    /// The schedules of the unit in a row, for making up answers that show another one.
+    pub fn schedules(&self, row: usize) -> &[Offered] {
+        &self.units[row].schedules
+    }
+
+    /// What the removals of a row leave, for making up answers that show another amount.
+    pub fn removals(&self, row: usize) -> &[u64] {
+        &self.units[row].removals
+    }
+}
+
+/// "Every other eligible schedule of the unit costs at least as much, and one that costs the same
+/// has a larger number."
+fn comes_after(other: &Offered, shown: &Offered) -> bool {
+    other.cost > shown.cost || other.cost == shown.cost && other.number > shown.number
+}
+
+impl Unit {
+    fn of(number: u64, filing: &Filing, eligible: &[Supply], relevant: &[Supply], day: &Day) -> Unit {
+        let of_unit = |row: &Supply| row.unit == number;
+        let supplier = filing.supply.iter().find(|row| of_unit(row)).map_or(0, |row| row.supplier);
+        let day_has = day.running.iter().find(|running| running.unit == number);
+        let schedules = offered(number, filing, day_has.is_some());
+        let on_cost = day_has.is_some_and(|running| running.kind == Kind::C);
+        Unit {
+            number,
+            supplier,
+            has_eligible_row: eligible.iter().any(of_unit),
+            has_relevant_row: relevant.iter().any(of_unit),
+            removals: removals(supplier, &filing.suppliers(), relevant),
+            eligible_exposed: eligible_schedules(&schedules, on_cost, true),
+            eligible_otherwise: eligible_schedules(&schedules, on_cost, false),
+            schedules,
+        }
+    }
+
+    /// The eligible schedules of a unit whose verdict is the one shown.
+    fn eligible(&self, verdict: u8) -> &[Offered] {
+        let exposed = verdict == b'F' && self.has_relevant_row || verdict == b'U' && self.has_eligible_row;
+        if exposed {
+            &self.eligible_exposed
+        } else {
+            &self.eligible_otherwise
+        }
+    }
+}
+
+/// The eligible ones of a unit's schedules.
+fn eligible_schedules(schedules: &[Offered], on_cost: bool, exposed: bool) -> Vec<Offered> {
+    let of_kind = |kind| schedules.iter().filter(|schedule| schedule.kind == kind).copied().collect();
+    let market_based: Vec<Offered> = of_kind(Kind::M);
+    if on_cost {
+        of_kind(Kind::C)
+    } else if exposed {
+        schedules.to_vec()
+    } else if !market_based.is_empty() {
+        market_based
+    } else {
+        of_kind(Kind::C)
+    }
+}
+
+/// Rows whose |dfax| is at least cutoff.
+fn eligible_rows(filing: &Filing) -> Vec<Supply> {
+    let far = |row: &&Supply| row.dfax.unsigned_abs() >= filing.constraint.cutoff;
+    filing.supply.iter().filter(far).copied().collect()
+}
+
+/// Effective supply, added up.
+fn supply(rows: &[Supply]) -> u64 {
+    rows.iter().map(|row| row.mw * row.dfax.unsigned_abs()).sum()
+}
+
+/// The relevant rows of an eligible supply that meets the need: costs are multiplied by a common
+/// denominator and sorted, and the supply is added up from the cheapest on until it meets the need.
+fn relevant_rows(eligible: &[Supply], need: u64) -> Vec<Supply> {
+    let denominator = eligible.iter().fold(1, |common, row| least_common_multiple(common, size(row)));
+    let cost = |row: &Supply| u128::from(capped(row.cost)) * (denominator / size(row));
+    let mut cheapest_first = eligible.to_vec();
+    cheapest_first.sort_by_key(cost);
+    let mut met = 0;
+    let clearing = cheapest_first.iter().find(|row| {
+        met += row.mw * row.dfax.unsigned_abs();
+        met >= need
+    });
+    let limit = clearing.map_or(0, |row| 3 * cost(row));
+    cheapest_first.retain(|row| 2 * cost(row) <= limit);
+    cheapest_first
+}
+
+fn size(row: &Supply) -> u128 {
+    u128::from(row.dfax.unsigned_abs())
+}
+
+fn least_common_multiple(a: u128, b: u128) -> u128 {
+    let (mut divisor, mut rest) = (a, b);
+    while rest != 0 {
+        (divisor, rest) = (rest, divisor % rest);
+    }
+    a / divisor * b
+}
+
+/// Eleven tenths rounded down, at most 10000 more, and at most 200000.
+fn capped(cost: u64) -> u64 {
+    (cost * 11 / 10).min(cost + 10_000).min(200_000)
+}
+
+/// What each removal leaves: "a removal takes away the row's supplier together with none, one or two
+/// other suppliers", and leaves "the effective supply, added up, of the relevant rows of every
+/// supplier not removed".
+fn removals(supplier: u64, suppliers: &BTreeSet<u64>, relevant: &[Supply]) -> Vec<u64> {
+    let others: Vec<u64> = suppliers.iter().copied().filter(|&other| other != supplier).collect();
+    let mut removed = vec![vec![supplier]];
+    for (index, &one) in others.iter().enumerate() {
+        removed.push(vec![supplier, one]);
+        removed.extend(others[..index].iter().map(|&two| vec![supplier, one, two]));
+    }
+    let leaves = |removed: Vec<u64>| {
+        let stays = |row: &&Supply| !removed.contains(&row.supplier);
+        supply(&relevant.iter().filter(stays).copied().collect::<Vec<_>>())
+    };
+    removed.into_iter().map(leaves).collect()
+}
+
+/// The schedules of a unit with their costs, by number.
+fn offered(unit: u64, filing: &Filing, runs_already: bool) -> Vec<Offered> {
+    let h = filing.constraint.hour;
+    let mut schedules: BTreeMap<u64, Offered> = BTreeMap::new();
+    for row in filing.schedules.iter().filter(|row| row.unit == unit) {
+        let start = if runs_already { 0 } else { 10 * row.startup };
+        let new = Offered { number: row.schedule, kind: row.kind, cost: start };
+        let schedule = schedules.entry(row.schedule).or_insert(new);
+        let last = if runs_already { h } else { h + row.minrun - 1 };
+        if h <= row.hour && row.hour <= last {
+            schedule.cost += cost_of_hour(row);
+        }
+    }
+    schedules.into_values().collect()
+}
+
+/// The cost of the hour of a row.
+fn cost_of_hour(row: &Schedule) -> u64 {
+    let price = if row.kind == Kind::C { capped(row.price) } else { row.price };
+    row.ecomin * price + 10 * row.noload
+}
+
+/// The row that a part of the bytes begins with, and the rest.
+fn read_row(bytes: &[u8]) -> Result<(Shown, &[u8]), Reason> {
+    let end = bytes.windows(2).position(|pair| pair == b"\r\n").ok_or("a record without its end")?;
+    let shown = read_record(&bytes[..end]).ok_or("a record out of the layout")?;
+    Ok((shown, &bytes[end + 2..]))
+}
+
+fn read_record(record: &[u8]) -> Option<Shown> {
+    let mut fields = record.split(|&byte| byte == b',');
+    let row = Shown {
+        unit: read_numeral(fields.next()?)?,
+        supplier: read_numeral(fields.next()?)?,
+        verdict: read_verdict(fields.next()?)?,
+        left: read_numeral(fields.next()?)?,
+        schedule: Offered {
+            number: read_numeral(fields.next()?)?,
+            kind: Kind::read(fields.next()?)?,
+            cost: read_numeral(fields.next()?)?,
+        },
+    };
+    fields.next().is_none().then_some(row)
+}
+
+fn read_verdict(text: &[u8]) -> Option<u8> {
+    match text {
+        [letter @ (b'U' | b'P' | b'F')] => Some(*letter),
+        _ => None,
+    }
+}
+
+/// A numeral; one beyond the type is beyond every number that a row can show.
+fn read_numeral(text: &[u8]) -> Option<u64> {
+    let leading_zero = text.len() > 1 && text[0] == b'0';
+    if text.is_empty() || leading_zero {
+        return None;
+    }
+    let mut number: u64 = 0;
+    for digit in text {
+        let value = digit.is_ascii_digit().then(|| u64::from(digit - b'0'))?;
+        number = number.checked_mul(10)?.checked_add(value)?;
+    }
+    Some(number)
+}
+
+#[cfg(test)]
+mod tests {
+    use super::*;
+    use crate::study::tests::Bytes;
+
+    const STARRED: [&str; 6] = [
+        "unit,supplier,verdict,left,schedule,kind,cost",
+        "11,1,F,0,2,C,1030000",
+        "12,2,F,0,1,M,330000",
+        "13,3,F,0,1,C,890000",
+        "14,4,F,5000000,1,M,500000",
+        "",
+    ];
+
+    /// What the judge of the starred example says when one record is replaced by another.
+    fn weigh(old: &str, new: &str) -> Result<(), Reason> {
+        let judge = Judge::of(&Bytes::starred().files(), &Day::fresh()).unwrap();
+        judge.weigh(STARRED.map(|record| if record == old { new } else { record }).join("\r\n").as_bytes())
+    }
+
+    #[test]
+    fn the_starred_answer_is_accepted() {
+        assert_eq!(weigh("", ""), Ok(()));
+    }
+
+    #[test]
+    fn each_sentence_rejects_for_its_own_reason() {
+        let first = "11,1,F,0,2,C,1030000";
+        let reasons = [
+            ("11,1,F,0,2,C,1030000,", "a record out of the layout"),
+            ("11,1,F,0,2,C,01030000", "a record out of the layout"),
+            ("11,1,f,0,2,C,1030000", "a record out of the layout"),
+            ("\"11\",1,F,0,2,C,1030000", "a record out of the layout"),
+            ("10,1,F,0,2,C,1030000", "not by rising number"),
+            ("11,2,F,0,2,C,1030000", "not its supplier"),
+            ("11,1,U,0,2,C,1030000", "U, or no U, against the eligible supply"),
+            ("11,1,P,0,2,C,1030000", "F, or P, against the removals"),
+            ("11,1,F,1,2,C,1030000", "an amount that no removal leaves"),
+            ("11,1,F,5000000,2,C,1030000", "a removal leaves less"),
+            ("11,1,F,0,2,M,1030000", "not an eligible schedule with its kind and cost"),
+            ("11,1,F,0,2,C,1030001", "not an eligible schedule with its kind and cost"),
+            ("11,1,F,0,1,M,1100000", "another schedule comes before"),
+            ("11,1,F,0,2,C,1030000\r\n11,1,F,0,2,C,1030000", "not by rising number"),
+        ];
+        for (row, reason) in reasons {
+            assert_eq!(weigh(first, row), Err(reason), "{row}");
+        }
+        assert_eq!(weigh("", "x"), Err("more than one row per unit"));
+        assert_eq!(weigh("14,4,F,5000000,1,M,500000", ""), Err("a record out of the layout"));
+        assert_eq!(weigh(STARRED[0], "unit"), Err("not the header"));
+    }
+
+    #[test]
+    fn at_equal_cost_the_larger_number_is_rejected() {
+        assert_eq!(weigh("12,2,F,0,1,M,330000", "12,2,F,0,2,C,330000"), Err("another schedule comes before"));
+    }
+
+    #[test]
+    fn unit_14_is_not_capped() {
+        let capped = weigh("14,4,F,5000000,1,M,500000", "14,4,F,5000000,2,C,220000");
+        assert_eq!(capped, Err("not an eligible schedule with its kind and cost"));
+    }
+}

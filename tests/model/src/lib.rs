@@ -1,0 +1,39 @@
+//! The offer capping engine, written down from document 01 and from nothing else.
+//!
+//! It is a model: every function says one sentence of the paper, nothing is tuned, and whoever
+//! doubts an engine can read here what the paper asks. The modules stand in the paper's order.
+//!
+//! | module | what the paper says there |
+//! |---|---|
+//! | [`csv`] | "File syntax is RFC 4180" |
+//! | [`table`] | columns, ranges and the refusals 1, 2, 4 and 3 of one file |
+//! | [`rules`] | what rows must be to each other: the refusals 5 to 9 |
+//! | [`market`] | capped offer, eligible supply, clearing cost, relevant market |
+//! | [`pivotal`] | the test of one supplier, within a study and on its own |
+//! | [`choice`] | eligible schedules, their cost, the one taken |
+//! | [`day`] | the hour and the running units; release |
+//! | [`answer`] | the answer file |
+//! | [`study`] | everything above in the order of the refusals |
+//! | [`check`] | the check for host programs |
+//!
+//! What follows isn't in the paper: [`case`] reads and answers cases written as lines, [`judge`]
+//! weighs any answer by the words of demand 3, [`changes`] makes answers for it to reject,
+//! [`generator`] makes cases up, and [`tally`] counts what they reached.
+
+pub mod csv;
+pub mod refusal;
+pub mod table;
+pub mod rules;
+pub mod market;
+pub mod pivotal;
+pub mod choice;
+pub mod day;
+pub mod answer;
+pub mod study;
+pub mod check;
+
+pub mod case;
+pub mod judge;
+pub mod changes;
+pub mod generator;
+pub mod tally;

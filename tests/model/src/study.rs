@@ -1,0 +1,220 @@
+//! The study: from three files and a day to the answer file and the next day.
+
+use crate::answer::{self, Row};
+use crate::choice::{choose, exposed};
+use crate::day::{Day, Running};
+use crate::market::Market;
+use crate::pivotal::{test_suppliers, Tested};
+use crate::refusal::{refuse_if, refuse_where, Refusal};
+use crate::rules::{Files, Filing};
+use crate::table::Kind;
+
+impl Day {
+    /// Studies the files. A day "goes into a call and comes back with the answer": the next day and
+    /// the answer's length where the study is accepted, else the day that was given, the refusal,
+    /// and a buffer in which no byte has changed.
+    pub fn study(self, files: &Files, buffer: &mut [u8]) -> (Day, Result<usize, Refusal>) {
+        match self.rows(files, buffer.len()) {
+            Ok((hour, rows)) => {
+                let length = answer::write(&rows, buffer);
+                let chosen: Vec<Running> = rows.iter().map(running).collect();
+                (self.after_study(hour, &chosen), Ok(length))
+            }
+            Err(refusal) => (self, Err(refusal)),
+        }
+    }
+
+    /// The hour and the answer's rows, or the first refusal: "24; then file by file 1, 2, 4, 3, 5, 6,
+    /// 7, each over the whole file; then 8, 9, 20, 21, 22, 10".
+    fn rows(&self, files: &Files, lent: usize) -> Result<(u64, Vec<Row>), Refusal> {
+        refuse_if(self.ill_formed(), Refusal::nowhere(24))?;
+        let filing = Filing::read(files)?;
+        let hour = filing.constraint.hour;
+        refuse_if(self.hour.is_some_and(|last| hour < last), Refusal::nowhere(20))?;
+        refuse_where(self.stuck_on_cost(&filing), 21, 3)?;
+        refuse_if(self.running_after(&filing) > Day::UNITS, Refusal::nowhere(22))?;
+        let rows = self.answer_rows(&filing);
+        refuse_if(answer::length(&rows) > lent, Refusal::nowhere(10))?;
+        Ok((hour, rows))
+    }
+
+    /// 21: "unit of the supply file, running on cost, has no C schedule (file 3, lowest unit)".
+    fn stuck_on_cost(&self, filing: &Filing) -> Option<u64> {
+        let has_c = |unit| filing.schedules_of(unit).iter().any(|row| row.kind == Kind::C);
+        filing.units().into_iter().find(|&unit| self.kind_of(unit) == Some(Kind::C) && !has_c(unit))
+    }
+
+    /// 22: how many units would run, those of the files and the others of the day.
+    fn running_after(&self, filing: &Filing) -> usize {
+        let mut units = filing.units();
+        units.extend(self.running.iter().map(|running| running.unit));
+        units.len()
+    }
+
+    /// "One row per unit of the supply file", with its supplier's verdict and its own choice.
+    fn answer_rows(&self, filing: &Filing) -> Vec<Row> {
+        let market = Market::of(filing);
+        let tested = test_suppliers(filing, &market);
+        let row = |unit| {
+            let supplier = supplier_of(unit, filing);
+            self.answer_row(unit, supplier, tested[&supplier], filing, &market)
+        };
+        filing.units().into_iter().map(row).collect()
+    }
+
+    /// "A unit's verdict is that of its supplier by 2 and 5, and the day here is the one the study
+    /// was given."
+    fn answer_row(&self, unit: u64, supplier: u64, tested: Tested, filing: &Filing, market: &Market) -> Row {
+        let schedules = filing.schedules_of(unit);
+        let exposed = exposed(unit, tested.verdict, market);
+        let chosen = choose(&schedules, filing.constraint.hour, self.kind_of(unit), exposed);
+        Row { unit, supplier, tested, chosen: chosen.expect("8 and 21 leave an eligible schedule") }
+    }
+}
+
+/// The supplier that a unit's rows share.
+fn supplier_of(unit: u64, filing: &Filing) -> u64 {
+    let row = filing.supply.iter().find(|row| row.unit == unit);
+    row.expect("a unit of the supply file").supplier
+}
+
+/// A unit on the schedule chosen for it.
+fn running(row: &Row) -> Running {
+    Running { unit: row.unit, kind: row.chosen.kind, schedule: row.chosen.schedule }
+}
+
+#[cfg(test)]
+pub mod tests {
+    use super::*;
+    use crate::answer::LONGEST;
+
+    const CONSTRAINT: &str = "hour,relief,cutoff";
+    const SUPPLY: &str = "unit,supplier,mw,cost,dfax";
+    const SCHEDULES: &str = "unit,schedule,kind,hour,ecomin,price,noload,startup,minrun";
+
+    const STARRED_SUPPLY: [&str; 4] =
+        ["11,1,1000,3000,5000", "12,2,1000,3000,-5000", "13,3,1000,4000,5000", "14,4,2000,2000,200"];
+
+    const STARRED_SCHEDULES: [&str; 7] = [
+        "11,1,M,5,100,4000,50000,20000,1",
+        "11,2,C,5,100,3000,50000,20000,1",
+        "12,1,M,5,100,3300,0,0,1",
+        "12,2,C,5,100,3000,0,0,1",
+        "13,1,C,5,200,4000,0,1000,1",
+        "14,1,M,5,100,5000,0,0,1",
+        "14,2,C,5,100,2000,0,0,1",
+    ];
+
+    /// The bytes of three files.
+    pub struct Bytes([Vec<u8>; 3]);
+
+    impl Bytes {
+        pub fn of(constraint: &str, supply: &[&str], schedules: &[&str]) -> Bytes {
+            let file =
+                |header: &str, rows: &[&str]| [&[header], rows, &[""]].concat().join("\r\n").into_bytes();
+            Bytes([file(CONSTRAINT, &[constraint]), file(SUPPLY, supply), file(SCHEDULES, schedules)])
+        }
+
+        /// The example ★ of the paper.
+        pub fn starred() -> Bytes {
+            Bytes::of("5,1000,300", &STARRED_SUPPLY, &STARRED_SCHEDULES)
+        }
+
+        pub fn files(&self) -> Files<'_> {
+            let [constraint, supply, schedules] = &self.0;
+            Files { constraint, supply, schedules }
+        }
+    }
+
+    /// The next day, and the answer file as lines or the refusal.
+    fn study(day: Day, bytes: &Bytes) -> (Day, Result<Vec<String>, Refusal>) {
+        let mut buffer = vec![0; LONGEST];
+        let (day, result) = day.study(&bytes.files(), &mut buffer);
+        let lines = |length: usize| {
+            let text = String::from_utf8(buffer[..length].to_vec()).unwrap();
+            text.split_terminator("\r\n").map(str::to_string).collect()
+        };
+        (day, result.map(lines))
+    }
+
+    fn runs(unit: u64, kind: Kind, schedule: u64) -> Running {
+        Running { unit, kind, schedule }
+    }
+
+    /// ★ The example, which "prints" these five records.
+    #[test]
+    fn starred_example() {
+        let (day, answer) = study(Day::fresh(), &Bytes::starred());
+        let expected = [
+            "unit,supplier,verdict,left,schedule,kind,cost",
+            "11,1,F,0,2,C,1030000",
+            "12,2,F,0,1,M,330000",
+            "13,3,F,0,1,C,890000",
+            "14,4,F,5000000,1,M,500000",
+        ];
+        assert_eq!(answer.unwrap(), expected);
+        assert_eq!(day.hour, Some(5));
+        let chosen = [runs(11, Kind::C, 2), runs(12, Kind::M, 1), runs(13, Kind::C, 1), runs(14, Kind::M, 1)];
+        assert_eq!(day.running, chosen);
+    }
+
+    #[test]
+    fn a_running_unit_pays_no_startup_and_keeps_to_cost() {
+        let given = Day {
+            hour: Some(5),
+            running: vec![runs(11, Kind::C, 77), runs(14, Kind::C, 1), runs(99, Kind::M, 9)],
+        };
+        let (day, answer) = study(given, &Bytes::starred());
+        let answer = answer.unwrap();
+        assert_eq!(answer[1], "11,1,F,0,2,C,830000");
+        assert_eq!(answer[4], "14,4,F,5000000,2,C,220000");
+        assert_eq!(day.running[4], runs(99, Kind::M, 9));
+    }
+
+    #[test]
+    fn too_little_supply_exposes_every_eligible_unit() {
+        let bytes = Bytes::of("5,1501,300", &STARRED_SUPPLY, &STARRED_SCHEDULES);
+        let (_, answer) = study(Day::fresh(), &bytes);
+        let answer = answer.unwrap();
+        assert_eq!(answer[1], "11,1,U,0,2,C,1030000");
+        assert_eq!(answer[4], "14,4,U,0,1,M,500000");
+        let enough = Bytes::of("5,1500,300", &STARRED_SUPPLY, &STARRED_SCHEDULES);
+        assert_eq!(study(Day::fresh(), &enough).1.unwrap()[1], "11,1,F,0,2,C,1030000");
+    }
+
+    #[test]
+    fn no_supply_rows_move_the_hour() {
+        let (day, answer) = study(Day::fresh(), &Bytes::of("5,1,1", &[], &[]));
+        assert_eq!(answer.unwrap(), ["unit,supplier,verdict,left,schedule,kind,cost"]);
+        assert_eq!(day, Day { hour: Some(5), running: vec![] });
+        let stray = Bytes::of("5,1,1", &[], &["1,1,M,5,0,0,0,0,1"]);
+        assert_eq!(study(Day::fresh(), &stray), (Day::fresh(), Err(Refusal::at(7, 3, 1))));
+    }
+
+    #[test]
+    fn the_state_refuses_in_order() {
+        let bytes = Bytes::starred();
+        let refusal = |hour, running| study(Day { hour, running }, &bytes).1.unwrap_err();
+        let on_cost = Bytes::of("5,1000,300", &STARRED_SUPPLY, &STARRED_SCHEDULES[..6]);
+        let stuck = Day { hour: Some(5), running: vec![runs(14, Kind::C, 1)] };
+        assert_eq!(study(stuck, &on_cost).1, Err(Refusal::at(21, 3, 14)));
+        assert_eq!(refusal(Some(6), vec![]), Refusal::nowhere(20));
+        assert_eq!(refusal(Some(24), vec![]), Refusal::nowhere(24));
+        let others = |count: u64| (100..100 + count).map(|unit| runs(unit, Kind::M, 1)).collect();
+        assert_eq!(refusal(None, others(61)), Refusal::nowhere(22));
+        assert!(study(Day { hour: None, running: others(60) }, &bytes).1.is_ok());
+    }
+
+    #[test]
+    fn a_fitting_buffer_is_enough_and_a_shorter_one_stays_as_it_was() {
+        let bytes = Bytes::starred();
+        let mut fitting = [0; 138];
+        assert_eq!(Day::fresh().study(&bytes.files(), &mut fitting).1, Ok(138));
+        let mut short = [7; 137];
+        assert_eq!(Day::fresh().study(&bytes.files(), &mut short), (Day::fresh(), Err(Refusal::nowhere(10))));
+        assert_eq!(short, [7; 137]);
+        let mut longer = [7; 141];
+        assert_eq!(Day::fresh().study(&bytes.files(), &mut longer).1, Ok(138));
+        assert_eq!((&longer[..138], &longer[138..]), (&fitting[..], &[7; 3][..]));
+    }
+}

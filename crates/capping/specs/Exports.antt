@@ -37,11 +37,11 @@ pub record FreshStudy (c s h old new report : List ℕ) (r : ℕ) : Type 0 where
   pub bytes : new ≡ studied freshDay c s h old .buffer
   pub reports : report ≡ reported (studied freshDay c s h old .refusal)
 
--- demand 3, where bytes were written: the answer file is all those that are right, and no others
+-- demand 3, where bytes were written: those are right, and no others are
 abbrev pub FreshRight : List ℕ → List ℕ → List ℕ → List ℕ → ℕ → Type 0
 FreshRight c s h new r = 0 < r → (text : List ℕ) → (text ≡ take r new) ↔ Right freshDay c s h text
 
--- the same of what a study answers
+-- count and refusal, by what a study answers
 abbrev pub answerCount : Study → ℕ
 answerCount (Written count) = count
 answerCount (Refused r) = 0

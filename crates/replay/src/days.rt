@@ -1,0 +1,240 @@
+// A day as a word: `-` for a fresh one, or `H;u:k:s,u:k:s` with the hour or `n` for none, and each
+// unit with kind and schedule. Assumes nothing of the word; an ill-formed day is read as it stands,
+// its first 64 units kept and all counted.
+ghost use Prim.Native.Nat.{_≤_, _<_};
+ghost use lib.ListN.{length};
+use crate::output::put_byte;
+use crate::output::put_number;
+use crate::output::put_text;
+use crate::words::after;
+use crate::words::end;
+use crate::words::first;
+use crate::words::from;
+use crate::words::is;
+use capping::Day;
+use capping::LastHour;
+use capping::Running;
+use tables::Kind;
+
+// The most units that a day is read with.
+const MOST_UNITS: usize = 1000;
+
+const LARGEST: u64 = 0xFFFF_FFFF_FFFF_FFFF;
+
+// A day, if it was in the form.
+pub struct DayRead {
+    pub is_read: bool,
+    pub day: Day,
+}
+
+enum HourRead {
+    Hour(LastHour),
+    Unreadable,
+}
+
+enum UnitRead {
+    Unit(Running),
+    Unreadable,
+}
+
+enum KindRead {
+    Kind(Kind),
+    Unreadable,
+}
+
+pub fn read(text: &[u8]) -> DayRead {
+    if is(text, b"-") {
+        return DayRead {
+            is_read: true,
+            day: Day::fresh(),
+        };
+    }
+    match read_hour(first(text, b';')) {
+        HourRead::Hour(hour) => read_units(hour, from(text, b';')),
+        HourRead::Unreadable => unreadable(),
+    }
+}
+
+fn unreadable() -> DayRead {
+    DayRead {
+        is_read: false,
+        day: Day::fresh(),
+    }
+}
+
+fn read_hour(text: &[u8]) -> HourRead {
+    if is(text, b"n") {
+        return HourRead::Hour(LastHour::Fresh);
+    }
+    match numeral::read(text, 0, LARGEST) {
+        numeral::Answer::Number(hour) => HourRead::Hour(LastHour::At(hour)),
+        numeral::Answer::Refused => HourRead::Unreadable,
+    }
+}
+
+// The day of an hour and of units, each of which stands behind a separator; the first separator
+// alone stands for no units.
+fn read_units(hour: LastHour, text: &[u8]) -> DayRead {
+    let mut day = of_hour(hour);
+    if text.len() == 0 {
+        return unreadable();
+    }
+    if text.len() == 1 {
+        return DayRead { is_read: true, day };
+    }
+    let mut at = 0;
+    while at < text.len() {
+        let start = at + 1;
+        let rest = &text[start..];
+        let e = end(rest, b',');
+        let UnitRead::Unit(unit) = read_unit(&rest[0..e]) else {
+            return unreadable();
+        };
+        if MOST_UNITS <= day.count {
+            return unreadable();
+        }
+        day = with_unit(day, unit);
+        at = start + e;
+    }
+    DayRead { is_read: true, day }
+}
+
+fn of_hour(hour: LastHour) -> Day {
+    let fresh = Day::fresh();
+    let running = fresh.running;
+    Day {
+        hour,
+        count: 0,
+        running,
+    }
+}
+
+// The day with one unit more, kept where it has room for it.
+fn with_unit(day: Day, unit: Running) -> Day
+    requires { ⌜ day .count < 1000 ⌝ }
+{
+    let hour = day.hour;
+    let at = day.count;
+    let mut running = day.running;
+    if at < Day::UNITS {
+        running[at] = unit;
+    }
+    Day {
+        hour,
+        count: at + 1,
+        running,
+    }
+}
+
+fn read_unit(text: &[u8]) -> UnitRead {
+    let rest = after(text, b':');
+    let numeral::Answer::Number(unit) = numeral::read(first(text, b':'), 0, LARGEST) else {
+        return UnitRead::Unreadable;
+    };
+    let KindRead::Kind(kind) = read_kind(first(rest, b':')) else {
+        return UnitRead::Unreadable;
+    };
+    let numeral::Answer::Number(schedule) = numeral::read(after(rest, b':'), 0, LARGEST) else {
+        return UnitRead::Unreadable;
+    };
+    UnitRead::Unit(Running {
+        unit,
+        schedule,
+        kind,
+    })
+}
+
+fn read_kind(text: &[u8]) -> KindRead {
+    if is(text, b"M") {
+        return KindRead::Kind(Kind::M);
+    }
+    if is(text, b"C") {
+        return KindRead::Kind(Kind::C);
+    }
+    KindRead::Unreadable
+}
+
+// Prints a day.
+pub fn put(day: Day, out: &mut [u8], at: usize) -> usize
+    requires { ⌜ at < length (now out) ⌝ }
+    ensures { λ r. ⌜ r < length (now (out .exit)) ⌝ }
+{
+    let hour = day.hour;
+    match hour {
+        LastHour::Fresh => put_hourless(day, out, at),
+        LastHour::At(h) => {
+            let number = put_number(h, out, at);
+            let next = put_byte(b';', out, number);
+            put_units(day, out, next)
+        }
+    }
+}
+
+fn put_hourless(day: Day, out: &mut [u8], at: usize) -> usize
+    requires { ⌜ at < length (now out) ⌝ }
+    ensures { λ r. ⌜ r < length (now (out .exit)) ⌝ }
+{
+    if day.count == 0 {
+        return put_byte(b'-', out, at);
+    }
+    let next = put_text(b"n;", out, at);
+    put_units(day, out, next)
+}
+
+fn put_units(day: Day, out: &mut [u8], at: usize) -> usize
+    requires { ⌜ at < length (now out) ⌝ }
+    ensures { λ r. ⌜ r < length (now (out .exit)) ⌝ }
+{
+    let count = kept(day.count);
+    let mut next = at;
+    let mut i = 0;
+    while i < count {
+        let unit = day.running[i];
+        next = put_unit(unit, i, out, next);
+        i += 1;
+    }
+    next
+}
+
+// How many of the units that are counted are kept.
+fn kept(count: usize) -> usize
+    ensures { λ r. ⌜ r ≤ 64 ⌝ }
+{
+    if count < Day::UNITS {
+        count
+    } else {
+        Day::UNITS
+    }
+}
+
+// Prints a unit, with a comma where it isn't the first.
+fn put_unit(r: Running, i: usize, out: &mut [u8], at: usize) -> usize
+    requires { ⌜ at < length (now out) ⌝ }
+    ensures { λ r. ⌜ r < length (now (out .exit)) ⌝ }
+{
+    let separator = put_separator(i, out, at);
+    let unit = put_number(r.unit, out, separator);
+    let kind = r.kind;
+    let next = put_kind(kind, out, unit);
+    put_number(r.schedule, out, next)
+}
+
+fn put_kind(kind: Kind, out: &mut [u8], at: usize) -> usize
+    requires { ⌜ at < length (now out) ⌝ }
+    ensures { λ r. ⌜ r < length (now (out .exit)) ⌝ }
+{
+    match kind {
+        Kind::M => put_text(b":M:", out, at),
+        Kind::C => put_text(b":C:", out, at),
+    }
+}
+
+fn put_separator(i: usize, out: &mut [u8], at: usize) -> usize
+    requires { ⌜ at < length (now out) ⌝ }
+    ensures { λ r. ⌜ r < length (now (out .exit)) ⌝ }
+{
+    if i == 0 {
+        return at;
+    }
+    put_byte(b',', out, at)
+}

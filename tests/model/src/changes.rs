@@ -29,14 +29,13 @@ pub fn changed(answer: &[u8], judge: &Judge) -> Vec<Vec<u8>> {
     changes
 }
 
-/// Each byte changed, left out or doubled, and one byte more.
+/// Each byte changed or left out, and one byte more at the end.
 fn bytes_changed(answer: &[u8]) -> Vec<Vec<u8>> {
     let mut changes = Vec::new();
     for (place, &byte) in answer.iter().enumerate() {
         let at = place..place + 1;
         changes.push(with(answer, at.clone(), &[byte ^ 1]));
-        changes.push(with(answer, at.clone(), &[]));
-        changes.push(with(answer, at, &[byte, byte]));
+        changes.push(with(answer, at, &[]));
     }
     let end = answer.len()..answer.len();
     changes.extend([b"\0", b"0", b"\n"].map(|byte| with(answer, end.clone(), byte)));
@@ -164,7 +163,7 @@ mod tests {
         let judge = Judge::of(&bytes.files(), &Day::fresh()).unwrap();
         assert_eq!(judge.weigh(&buffer[..length]), Ok(()));
         let changes = changed(&buffer[..length], &judge);
-        assert!(changes.len() > 600, "{}", changes.len());
+        assert!(changes.len() > 500, "{}", changes.len());
         for change in changes {
             assert!(judge.weigh(&change).is_err(), "{}", String::from_utf8_lossy(&change));
         }

@@ -23,13 +23,10 @@ impl Draft {
         let size = Size::make(random);
         let (relief, cutoff, supply) = make_market(size, random);
         let hour = make_hour(random);
-        let mut draft = Draft {
-            constraint: Constraint { hour, relief, cutoff },
-            supply,
-            schedules: Vec::new(),
-            day: Day::fresh(),
-        };
-        draft.schedules = make_schedules(&draft.units(), hour, random);
+        let constraint = Constraint { hour, relief, cutoff };
+        let mut draft = Draft { constraint, supply, schedules: Vec::new(), day: Day::fresh() };
+        let plan = Plan { hour, brief: random.percent(85) };
+        draft.schedules = plan.schedules(&draft.units(), random);
         draft.day = make_day(&draft, random);
         draft.mix(random);
         draft
@@ -37,23 +34,17 @@ impl Draft {
 
     /// A draft at every limit, with long numerals: its schedules can fill 65,536 bytes.
     pub fn make_brimming(random: &mut Random) -> Draft {
-        let (relief, cutoff, mut supply) = make_market(Size::LARGEST, random);
-        let mut draft = Draft {
-            constraint: Constraint { hour: 8, relief, cutoff },
-            supply: Vec::new(),
-            schedules: Vec::new(),
-            day: Day::fresh(),
-        };
-        let mut units: Vec<u64> = supply.iter().map(|row| row.unit).collect();
-        units.sort();
-        units.dedup();
-        for row in &mut supply {
-            row.unit = 9_000 + units.iter().position(|&unit| unit == row.unit).unwrap_or(0) as u64;
+        let (relief, cutoff, supply) = make_market(Size::LARGEST, random);
+        let constraint = Constraint { hour: 8, relief, cutoff };
+        let mut draft = Draft { constraint, supply, schedules: Vec::new(), day: Day::fresh() };
+        let units = draft.units();
+        for row in &mut draft.supply {
+            row.unit = 9_000 + units.iter().filter(|&&unit| unit < row.unit).count() as u64;
         }
-        draft.supply = supply;
         for unit in draft.units() {
             let schedule = random.between(10, 99);
-            let (kind, startup) = (random.pick(&[Kind::M, Kind::C]), random.between(10_000_000, 99_999_999));
+            let kind = random.pick(&[Kind::M, Kind::C]);
+            let startup = random.between(10_000_000, 99_999_999);
             draft.schedules.extend((8..=23).map(|hour| Schedule {
                 unit,
                 schedule,
@@ -113,76 +104,92 @@ fn make_hour(random: &mut Random) -> u64 {
     }
 }
 
-/// Schedules for every unit, in the room there is.
-fn make_schedules(units: &[u64], hour: u64, random: &mut Random) -> Vec<Schedule> {
-    let mut rows = Vec::new();
-    let brief = random.percent(75);
-    for (index, &unit) in units.iter().enumerate() {
-        let room = (SCHEDULE_ROWS - rows.len()) / (units.len() - index);
-        rows.extend(make_unit(unit, hour, room, brief, random));
-    }
-    rows
-}
-
-/// The schedules of one unit, by number.
-fn make_unit(unit: u64, hour: u64, room: usize, brief: bool, random: &mut Random) -> Vec<Schedule> {
-    let mut rows: Vec<Schedule> = Vec::new();
-    let count = random.pick(&[1, 2, 2, 3, 4]);
-    let mut numbers = make_numbers(count, random);
-    let market_based = if random.percent(85) { random.index(count) } else { count };
-    let base = random.scaled(100_000);
-    let mut previous = None;
-    while let Some(number) = numbers.pop() {
-        let kind = if numbers.len() == market_based { Kind::M } else { Kind::C };
-        let mut first = make_schedule(unit, number, kind, hour, base, brief, random);
-        if let (Some(twin), true) = (previous, random.percent(40)) {
-            first = make_twin(&first, &twin, random);
-        }
-        let schedule = make_hours(&first, hour, room - rows.len(), random);
-        if !schedule.is_empty() {
-            previous = Some(first);
-            rows.extend(schedule);
-        }
-    }
-    rows
-}
-
-/// Numbers for a unit's schedules.
-fn make_numbers(count: usize, random: &mut Random) -> Vec<u64> {
-    if random.percent(50) {
-        let mut numbers: Vec<u64> = (1..=count as u64).collect();
-        random.shuffle(&mut numbers);
-        numbers
-    } else {
-        random.distinct(count, 1, 99)
-    }
-}
-
-/// The row of a schedule at the study hour.
-fn make_schedule(
-    unit: u64,
-    schedule: u64,
-    kind: Kind,
+/// What the schedules of a draft have in common.
+struct Plan {
     hour: u64,
-    base: u64,
+    /// Whether most runs are of a few hours.
     brief: bool,
-    random: &mut Random,
-) -> Schedule {
-    let price = match random.between(0, 9) {
-        0 => random.pick(&[0, 9, 10, 99_999, 100_001, 189_999, 190_000, 200_000]),
-        1 => random.scaled(200_000),
-        _ => base * random.between(60, 160) / 100,
-    };
-    Schedule {
-        unit,
-        schedule,
-        kind,
-        hour,
-        ecomin: if random.once_in(20) { random.pick(&[0, 1, 100_000]) } else { random.between(1, 2_000) },
-        price,
-        noload: make_charge(random),
-        startup: make_charge(random),
-        minrun: if brief { random.pick(&[1, 1, 2, 3]) } else { random.pick(&[1, 2, 4, 8, 23, 24]) },
+}
+
+impl Plan {
+    /// Schedules for every unit, in the room there is.
+    fn schedules(&self, units: &[u64], random: &mut Random) -> Vec<Schedule> {
+        let mut rows = Vec::new();
+        for (index, &unit) in units.iter().enumerate() {
+            let room = (SCHEDULE_ROWS - rows.len()) / (units.len() - index);
+            rows.extend(self.unit(unit, room, random));
+        }
+        rows
+    }
+
+    /// The schedules of one unit, of which at most one is market-based.
+    fn unit(&self, unit: u64, room: usize, random: &mut Random) -> Vec<Schedule> {
+        let mut rows: Vec<Schedule> = Vec::new();
+        let numbers = make_numbers(random);
+        let market_based = if random.percent(85) { Some(random.pick(&numbers)) } else { None };
+        let level = random.scaled(100_000);
+        for number in numbers {
+            let kind = if Some(number) == market_based { Kind::M } else { Kind::C };
+            let mut first = self.schedule(unit, number, kind, level, random);
+            if !rows.is_empty() && random.percent(40) {
+                first = make_twin(&first, &random.pick(&rows), random);
+            }
+            rows.extend(self.hours(&first, room - rows.len(), random));
+        }
+        rows
+    }
+
+    /// The row of a schedule at the study hour, with a price around a level.
+    fn schedule(&self, unit: u64, schedule: u64, kind: Kind, level: u64, random: &mut Random) -> Schedule {
+        let price = match random.between(0, 9) {
+            0 => random.pick(&[0, 9, 10, 99_999, 100_001, 189_999, 190_000, 200_000]),
+            1 => random.scaled(200_000),
+            _ => level * random.between(60, 160) / 100,
+        };
+        let ecomin =
+            if random.once_in(20) { random.pick(&[0, 1, 100_000]) } else { random.between(1, 2_000) };
+        let minrun = if self.brief { random.pick(&[1, 1, 2, 3]) } else { random.pick(&[1, 2, 4, 8, 23, 24]) };
+        let (noload, startup) = (make_charge(random), make_charge(random));
+        Schedule { unit, schedule, kind, hour: self.hour, ecomin, price, noload, startup, minrun }
+    }
+
+    /// A row for each hour of the schedule's run and for some others, as far as there is room for
+    /// them. Where there isn't, the run is shorter; without any room there is no row.
+    fn hours(&self, first: &Schedule, room: usize, random: &mut Random) -> Vec<Schedule> {
+        let last = (self.hour + first.minrun - 1).min(23);
+        let mut hours: Vec<u64> = (self.hour..=last).collect();
+        let mut minrun = first.minrun;
+        if hours.len() > room {
+            hours.truncate(room);
+            minrun = room as u64;
+        }
+        let others = if random.percent(25) { random.between(0, 3) } else { 0 };
+        for _ in 0..others {
+            let other = random.between(0, 23);
+            if hours.len() < room && !hours.contains(&other) {
+                hours.push(other);
+            }
+        }
+        let flat = random.percent(50);
+        let row = |hour: u64| {
+            let mut row = Schedule { hour, minrun, ..*first };
+            if hour != self.hour && !flat {
+                row.price = (row.price * random.between(50, 150) / 100).min(200_000);
+                row.noload = row.noload * random.between(50, 100) / 100;
+            }
+            row
+        };
+        hours.into_iter().map(row).collect()
+    }
+}
+
+/// Numbers for a unit's schedules, in no order.
+fn make_numbers(random: &mut Random) -> Vec<u64> {
+    let count = random.pick(&[1, 2, 2, 3, 4]);
+    if random.percent(50) {
+        random.distinct(count, 1, 99)
+    } else {
+        random.distinct(count, 1, count as u64)
     }
 }
 
@@ -198,7 +205,7 @@ fn make_charge(random: &mut Random) -> u64 {
 /// A schedule that costs what another does, or all but: the price of an M row is the capped price of
 /// a C row.
 fn make_twin(first: &Schedule, twin: &Schedule, random: &mut Random) -> Schedule {
-    let mut schedule = Schedule { unit: first.unit, schedule: first.schedule, kind: first.kind, ..*twin };
+    let mut schedule = Schedule { schedule: first.schedule, kind: first.kind, hour: first.hour, ..*twin };
     match (schedule.kind, twin.kind) {
         (Kind::M, Kind::C) => schedule.price = capped(twin.price),
         (Kind::C, Kind::M) => schedule.price = uncapped(twin.price),
@@ -221,35 +228,6 @@ pub fn uncapped(offer: u64) -> u64 {
         cost += 1;
     }
     cost
-}
-
-/// A row for each hour of the schedule's run and for some others, as far as there is room for them;
-/// no row at all where there is no room for the run.
-fn make_hours(first: &Schedule, hour: u64, room: usize, random: &mut Random) -> Vec<Schedule> {
-    let flat = random.percent(50);
-    let last = (hour + first.minrun - 1).min(23);
-    let mut minrun = first.minrun;
-    let mut hours: Vec<u64> = (hour..=last).collect();
-    if hours.len() > room {
-        hours.truncate(room);
-        minrun = room as u64;
-    }
-    let others = if random.percent(25) { random.between(0, 3) } else { 0 };
-    for _ in 0..others {
-        let other = random.between(0, 23);
-        if hours.len() < room && !hours.contains(&other) {
-            hours.push(other);
-        }
-    }
-    let row = |other: u64| {
-        let mut row = Schedule { hour: other, minrun, ..*first };
-        if other != hour && !flat {
-            row.price = row.price * random.between(50, 150) / 100 % 200_001;
-            row.noload = row.noload * random.between(50, 100) / 100;
-        }
-        row
-    };
-    hours.into_iter().map(row).collect()
 }
 
 /// A day that the draft can be studied on.
@@ -285,7 +263,7 @@ pub fn others_running(count: usize, units: &[u64], random: &mut Random) -> Vec<R
     let mut numbers = random.distinct(count + units.len(), 1, 9_999);
     numbers.retain(|unit| !units.contains(unit));
     numbers.truncate(count);
-    let mut running =
+    let running =
         |unit| Running { unit, kind: random.pick(&[Kind::M, Kind::C]), schedule: random.between(1, 99) };
-    numbers.into_iter().map(|unit| running(unit)).collect()
+    numbers.into_iter().map(running).collect()
 }

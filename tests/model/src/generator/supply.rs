@@ -24,9 +24,9 @@ impl Size {
             0..=2 => (0, 0),
             3..=14 => (random.between(1, 3), random.between(1, 3)),
             15..=34 => (random.between(4, 8), random.between(2, 6)),
-            35..=80 => (random.between(6, 8), random.between(5, 6)),
-            81..=95 => (random.between(5, 20), random.between(4, 12)),
-            96..=98 => (random.between(21, 64), random.between(6, 32)),
+            35..=86 => (random.between(6, 8), random.between(5, 6)),
+            87..=96 => (random.between(5, 20), random.between(4, 12)),
+            97..=98 => (random.between(21, 64), random.between(6, 32)),
             _ => return Size::LARGEST,
         };
         let most_rows = random.pick(&[1, 1, 2, 4]) * units;

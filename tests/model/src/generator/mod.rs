@@ -23,8 +23,8 @@ pub const GATE_CASES: u64 = 20_000;
 /// A case as a line, without its end.
 pub struct Line {
     pub bytes: Vec<u8>,
-    /// Whether every reader of such lines is bound to read it as this one does: one that takes larger
-    /// buffers, skips empty lines or clamps numbers answers otherwise without being wrong on a study.
+    /// Whether it can be put to a program that takes larger buffers, skips empty lines or clamps the
+    /// numbers of 2^64 and more in a day.
     pub common: bool,
 }
 
@@ -134,5 +134,54 @@ fn make_buffer(short: bool, day: &Day, files: &ThreeFiles, random: &mut Random) 
         1 => random.between(0, LONGEST_BUFFER),
         2..=6 => LONGEST as u64,
         _ => LONGEST_BUFFER,
+    }
+}
+
+#[cfg(test)]
+mod tests {
+    use super::*;
+
+    /// Whether a draft's files are accepted on its day.
+    fn accepted(day: Day, files: &ThreeFiles) -> bool {
+        day.study(&files.lend(), &mut [0; LONGEST]).1.is_ok()
+    }
+
+    #[test]
+    fn drafts_are_accepted() {
+        for index in 0..1_000 {
+            let random = &mut Random::of(1, index);
+            let draft = Draft::make(random);
+            let files = ThreeFiles(sheets(&draft).map(|sheet| sheet.write(random)));
+            assert!(accepted(draft.day, &files), "{index}");
+        }
+    }
+
+    #[test]
+    fn brimming_schedules_are_accepted() {
+        for index in 0..10 {
+            let random = &mut Random::of(2, index);
+            let draft = Draft::make_brimming(random);
+            let mut sheets = sheets(&draft);
+            let schedules = sheets[2].write_brimming(random);
+            assert_eq!(schedules.len(), LARGEST_FILE);
+            let [constraint, supply, _] = sheets.map(|sheet| sheet.write(random));
+            assert!(accepted(draft.day, &ThreeFiles([constraint, supply, schedules])), "{index}");
+        }
+    }
+
+    #[test]
+    fn a_case_depends_on_its_seed_and_index_alone() {
+        let line = |seed, index| make(seed, index).bytes;
+        assert_eq!(line(3, 4), line(3, 4));
+        assert_ne!(line(3, 4), line(3, 5));
+        assert_ne!(line(3, 4), line(4, 4));
+    }
+
+    #[test]
+    fn lines_that_cannot_be_read_are_not() {
+        for index in 0..500 {
+            let line = lines::make_unreadable(&mut Random::of(5, index));
+            assert_eq!(Case::read(&line.bytes), None, "{:?}", String::from_utf8_lossy(&line.bytes));
+        }
     }
 }

@@ -3,6 +3,7 @@
 use super::draft::{others_running, Draft};
 use super::random::Random;
 use super::sheet::Sheet;
+use crate::case::LONGEST_LIST;
 use crate::csv::Field;
 use crate::day::{Day, Running};
 use crate::table::{Kind, Range, Schedule, Supply};
@@ -227,6 +228,7 @@ pub fn spoil_day(day: &mut Day, random: &mut Random) {
             day.hour = Some(random.between(0, 23));
         }
     }
+    day.running.truncate(LONGEST_LIST);
 }
 
 /// 2: another header, or a record with another field count.
@@ -323,5 +325,20 @@ fn spoil_row_count(sheet: &mut Sheet, random: &mut Random) {
     let rows = most + random.pick(&[1, 1, 2]);
     while sheet.records.len() < rows + 1 {
         sheet.records.push(row.clone());
+    }
+}
+
+#[cfg(test)]
+mod tests {
+    use super::*;
+
+    #[test]
+    fn a_spoilt_day_can_still_be_written_as_a_case() {
+        for index in 0..1_000 {
+            let random = &mut Random::of(1, index);
+            let mut day = Day::fresh();
+            (0..3).for_each(|_| spoil_day(&mut day, random));
+            assert!(day.running.len() <= LONGEST_LIST);
+        }
     }
 }

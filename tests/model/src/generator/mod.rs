@@ -4,8 +4,8 @@
 mod draft;
 mod faults;
 mod lines;
-mod random;
-mod sheet;
+pub mod random;
+pub mod sheet;
 mod supply;
 
 use crate::answer::LONGEST;

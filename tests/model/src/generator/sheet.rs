@@ -86,7 +86,7 @@ impl Sheet {
     }
 
     /// The bytes, with the fields quoted that the choice names by their count.
-    fn join(&self, mut quoted: impl FnMut(usize) -> bool) -> Vec<u8> {
+    pub fn join(&self, mut quoted: impl FnMut(usize) -> bool) -> Vec<u8> {
         let mut bytes = Vec::new();
         let mut count = 0;
         for record in &self.records {

@@ -1,0 +1,117 @@
+//! What is timed: an implementation's study and check of three files.
+
+use capping_model::answer::LONGEST;
+use capping_model::check::check;
+use capping_model::day::Day;
+use capping_model::rules::Files;
+
+use crate::study::Study;
+
+/// An implementation.
+pub struct Engine {
+    pub name: &'static str,
+    /// Studies the files on a fresh day: the answer's length in the buffer, or 0 where it refuses them.
+    pub study: fn(&Files, &mut [u8]) -> usize,
+    /// 0, or the number of the first refusal.
+    pub check: fn(&Files) -> u64,
+    /// How many rounds have one call; a slow engine is spared some.
+    pub rounds_a_call: usize,
+}
+
+/// What an engine is asked.
+#[derive(Clone, Copy)]
+pub enum Call {
+    Study,
+    Check,
+}
+
+impl Call {
+    pub const ALL: [Call; 2] = [Call::Study, Call::Check];
+
+    pub fn name(self) -> &'static str {
+        match self {
+            Call::Study => "study",
+            Call::Check => "check",
+        }
+    }
+}
+
+impl Engine {
+    /// The engine that is proved.
+    pub const OURS: Engine = Engine {
+        name: "ours",
+        study: |files, buffer| {
+            capping::study_into(files.constraint, files.supply, files.schedules, buffer).unwrap_or(0)
+        },
+        check: |files| match capping::check(files.constraint, files.supply, files.schedules) {
+            Ok(()) => 0,
+            Err(number) => number,
+        },
+        rounds_a_call: 1,
+    };
+
+    /// The model, which every answer is compared with.
+    pub const MODEL: Engine = Engine {
+        name: "model",
+        study: |files, buffer| Day::fresh().study(files, buffer).1.unwrap_or(0),
+        check,
+        rounds_a_call: 10,
+    };
+
+    /// That the engine accepts a study and answers it byte for byte as the model does.
+    pub fn compare(&self, study: &Study) -> Result<(), String> {
+        let files = study.files.lend();
+        let differs = |what: &str| Err(format!("{} {what} the study {study}", self.name));
+        let answer = self.answer(&files);
+        match (self.check)(&files) {
+            0 if answer.is_empty() => differs("refuses"),
+            0 if answer != Engine::MODEL.answer(&files) => differs("has another answer than the model to"),
+            0 => Ok(()),
+            number => differs(&format!("checks with {number}")),
+        }
+    }
+
+    /// The answer file, empty where the files are refused.
+    fn answer(&self, files: &Files) -> Vec<u8> {
+        let mut buffer = vec![0; LONGEST];
+        let length = (self.study)(files, &mut buffer);
+        buffer.truncate(length);
+        buffer
+    }
+}
+
+#[cfg(test)]
+mod tests {
+    use super::*;
+    use crate::study::{Layout, Study};
+
+    fn study() -> Study {
+        Study::make(16, Layout::Plain)
+    }
+
+    #[test]
+    fn the_engine_answers_as_the_model() {
+        assert_eq!(Engine::OURS.compare(&study()), Ok(()));
+    }
+
+    #[test]
+    fn a_wrong_engine_is_not_timed() {
+        let refusing = Engine { study: |_, _| 0, ..Engine::MODEL };
+        assert!(refusing.compare(&study()).is_err());
+        let checking_wrong = Engine { check: |_| 3, ..Engine::MODEL };
+        assert!(checking_wrong.compare(&study()).is_err());
+        let one_byte_off = |files: &Files, buffer: &mut [u8]| {
+            let length = (Engine::MODEL.study)(files, buffer);
+            buffer[length - 3] ^= 1;
+            length
+        };
+        assert!(Engine { study: one_byte_off, ..Engine::MODEL }.compare(&study()).is_err());
+    }
+
+    #[test]
+    fn a_refused_study_is_not_timed() {
+        let mut refused = study();
+        refused.files.0[0].push(b'\t');
+        assert!(Engine::MODEL.compare(&refused).is_err());
+    }
+}

@@ -1,0 +1,54 @@
+//! How long a study and a check take: the engine's own, the model's and, where there is one, a peer's, which is
+//! another implementation of document 01. All are called in this process, on the same bytes, in the same rounds.
+//! Nothing here says how long a call may take.
+//!
+//! | module | what it has |
+//! |---|---|
+//! | [`study`] | the studies, made up from a seed |
+//! | [`engine`] | an implementation's calls, and whether it answers as the model does |
+//! | [`timing`] | the rounds |
+//! | [`report`] | tables of what was measured |
+//! | [`picture`] | time against rows as SVG |
+
+pub mod study;
+pub mod engine;
+pub mod timing;
+pub mod report;
+pub mod picture;
+
+use std::path::Path;
+use std::process::ExitCode;
+
+use engine::Engine;
+
+/// The program: its one argument is where the picture goes.
+pub fn main(peer: Option<Engine>) -> ExitCode {
+    let Some(picture) = std::env::args_os().nth(1) else {
+        eprintln!("usage: bench PICTURE");
+        return ExitCode::from(2);
+    };
+    match run(peer, Path::new(&picture)) {
+        Ok(()) => ExitCode::SUCCESS,
+        Err(reason) => {
+            println!("{reason}");
+            ExitCode::FAILURE
+        }
+    }
+}
+
+/// Compares all answers, then times all calls, prints the tables and writes the picture.
+fn run(peer: Option<Engine>, picture: &Path) -> Result<(), String> {
+    let engines: Vec<Engine> = [Engine::OURS, Engine::MODEL].into_iter().chain(peer).collect();
+    let studies = study::make_all();
+    for study in &studies {
+        for engine in &engines {
+            engine.compare(study)?;
+        }
+    }
+    let measured = timing::measure(&engines, &studies);
+    print!("{}", report::of(&engines, &measured));
+    let drawn = picture::draw(&engines, &measured);
+    std::fs::write(picture, drawn).map_err(|error| format!("{}: {error}", picture.display()))?;
+    println!("\npicture: {}", picture.display());
+    Ok(())
+}

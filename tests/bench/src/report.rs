@@ -1,0 +1,90 @@
+//! What was measured as plain tables: a table for each call, then how its time grows with the rows.
+
+use std::fmt::Write;
+
+use crate::engine::{Call, Engine};
+use crate::timing::Measured;
+
+/// Nanoseconds of a microsecond.
+pub const MICROSECOND: f64 = 1_000.0;
+
+/// The engine that the others are held against.
+const OURS: usize = 0;
+
+/// The whole report.
+pub fn of(engines: &[Engine], measured: &[Measured]) -> String {
+    let tables = Call::ALL.map(|call| times(call, engines, measured) + "\n").concat();
+    tables + &growth(engines, measured)
+}
+
+/// The times of a call on all studies.
+fn times(call: Call, engines: &[Engine], measured: &[Measured]) -> String {
+    let calls = |(index, engine): (usize, &Engine)| {
+        format!("{} of {}", measured[0].times(index, call).calls(), engine.name)
+    };
+    let calls: Vec<String> = engines.iter().enumerate().map(calls).collect();
+    let (name, calls) = (call.name(), calls.join(", "));
+    let mut table = format!("{name}: microseconds of a call, median and least (calls: {calls})\n");
+    let _ = write!(table, "{:<10}{:>6}{:>10}{:>8}", "layout", "supply", "schedules", "bytes");
+    for engine in engines {
+        let _ = write!(table, "{:>12}{:>10}", engine.name, "least");
+    }
+    for engine in &engines[1..] {
+        let _ = write!(table, "{:>12}", format!("ours/{}", engine.name));
+    }
+    table += "     ns/byte\n";
+    for measured in measured {
+        table += &line(call, engines.len(), measured);
+    }
+    table
+}
+
+/// A study's line.
+fn line(call: Call, engines: usize, measured: &Measured) -> String {
+    let study = measured.study;
+    let (layout, supply, schedules) = (study.layout.name(), study.supply_rows, study.schedule_rows);
+    let mut line = format!("{layout:<10}{supply:>6}{schedules:>10}{:>8}", study.bytes());
+    for engine in 0..engines {
+        let times = measured.times(engine, call);
+        let _ = write!(line, "{:>12.2}{:>10.2}", times.median() / MICROSECOND, times.least() / MICROSECOND);
+    }
+    let ours = measured.times(OURS, call).median();
+    for engine in 1..engines {
+        let _ = write!(line, "{:>12.3}", ours / measured.times(engine, call).median());
+    }
+    let _ = writeln!(line, "{:>12.2}", ours / study.bytes() as f64);
+    line
+}
+
+/// How the times grow, layout by layout.
+fn growth(engines: &[Engine], measured: &[Measured]) -> String {
+    let layouts = measured.chunk_by(|a, b| a.study.layout == b.study.layout);
+    let tables: String = layouts.map(|sizes| growth_in_layout(engines, sizes)).collect();
+    format!("growth: the power of the rows by which the median grows from size to size\n{tables}")
+}
+
+/// How the times of each engine and call grow over the sizes of a layout.
+fn growth_in_layout(engines: &[Engine], sizes: &[Measured]) -> String {
+    let line = |name: String, column: &dyn Fn(&Measured, &Measured) -> String| {
+        let columns: String = sizes.windows(2).map(|pair| column(&pair[0], &pair[1])).collect();
+        format!("{name:<22}{columns}\n")
+    };
+    let mut table = line(format!("{}, rows", sizes[0].study.layout.name()), &|from, to| {
+        format!("{:>12}", format!("{}-{}", from.study.rows(), to.study.rows()))
+    });
+    for (index, engine) in engines.iter().enumerate() {
+        for call in Call::ALL {
+            table += &line(format!("  {} {}", engine.name, call.name()), &|from, to| {
+                format!("{:>12.2}", power(index, call, from, to))
+            });
+        }
+    }
+    table
+}
+
+/// The power of the rows by which a time grows from one size to another.
+fn power(engine: usize, call: Call, from: &Measured, to: &Measured) -> f64 {
+    let times = to.times(engine, call).median() / from.times(engine, call).median();
+    let rows = to.study.rows() as f64 / from.study.rows() as f64;
+    times.log(rows)
+}

@@ -1,0 +1,218 @@
+//! The studies: markets made up from a seed as real ones are, of several sizes and in three layouts. A unit has a
+//! few segments of rising cost, a market-based schedule beside its cost-based ones, and some distance to the
+//! constraint. The relief is such that suppliers pass and fail, as far as there are enough of them.
+
+use std::fmt::{self, Display, Formatter};
+
+use capping_model::case::ThreeFiles;
+use capping_model::generator::random::Random;
+use capping_model::generator::sheet::Sheet;
+use capping_model::market::{eligible, supply_of, Market};
+use capping_model::pivotal::{test_suppliers, Verdict};
+use capping_model::rules::Filing;
+use capping_model::table::{Constraint, Kind, Schedule, Supply};
+
+const SEED: u64 = 20_260_701;
+
+/// Supply rows of the sizes, the last one the most that there may be.
+const SUPPLY_ROWS: [usize; 6] = [4, 16, 32, 64, 128, 256];
+
+/// Supply rows of a unit. The largest study has 64 units then, of 32 suppliers.
+const SEGMENTS: usize = 4;
+const UNITS_OF_A_SUPPLIER: usize = 2;
+
+/// How the schedule rows of a unit may fall to its schedules. There are 16 of them, so that the largest study has
+/// 1,024, and as many hours from the study hour to the last.
+const SPLITS: [&[u64]; 4] = [&[8, 8], &[10, 6], &[6, 5, 5], &[4, 4, 4, 4]];
+const HOUR: u64 = 8;
+
+const CUTOFF: u64 = 300;
+
+/// "The need is relief × 10000."
+const NEED_OF_A_RELIEF: u64 = 10_000;
+
+/// How the rows of a study are laid down.
+#[derive(Clone, Copy, PartialEq, Eq, Debug)]
+pub enum Layout {
+    /// Unit by unit, no field quoted.
+    Plain,
+    /// In any order.
+    Shuffled,
+    /// Unit by unit, every field quoted.
+    Quoted,
+}
+
+impl Layout {
+    pub const ALL: [Layout; 3] = [Layout::Plain, Layout::Shuffled, Layout::Quoted];
+
+    pub fn name(self) -> &'static str {
+        match self {
+            Layout::Plain => "plain",
+            Layout::Shuffled => "shuffled",
+            Layout::Quoted => "quoted",
+        }
+    }
+}
+
+/// A study to time.
+pub struct Study {
+    pub layout: Layout,
+    pub supply_rows: usize,
+    pub schedule_rows: usize,
+    pub files: ThreeFiles,
+}
+
+/// All studies, layout by layout and by rising size.
+pub fn make_all() -> Vec<Study> {
+    let sizes = |layout| SUPPLY_ROWS.map(|supply_rows| Study::make(supply_rows, layout));
+    Layout::ALL.into_iter().flat_map(sizes).collect()
+}
+
+impl Study {
+    /// The study of a size in a layout.
+    pub fn make(supply_rows: usize, layout: Layout) -> Study {
+        let random = &mut Random::of(SEED, supply_rows as u64);
+        let mut filing = make_filing(supply_rows / SEGMENTS, random);
+        if layout == Layout::Shuffled {
+            random.shuffle(&mut filing.supply);
+            random.shuffle(&mut filing.schedules);
+        }
+        let sheets = [
+            Sheet::constraint(&filing.constraint),
+            Sheet::supply(&filing.supply),
+            Sheet::schedules(&filing.schedules),
+        ];
+        let files = ThreeFiles(sheets.map(|sheet| sheet.join(|_| layout == Layout::Quoted)));
+        Study { layout, supply_rows, schedule_rows: filing.schedules.len(), files }
+    }
+
+    pub fn rows(&self) -> usize {
+        self.supply_rows + self.schedule_rows
+    }
+
+    pub fn bytes(&self) -> usize {
+        self.files.0.iter().map(Vec::len).sum()
+    }
+}
+
+impl Display for Study {
+    fn fmt(&self, out: &mut Formatter) -> fmt::Result {
+        write!(out, "{} {}/{}", self.layout.name(), self.supply_rows, self.schedule_rows)
+    }
+}
+
+/// The rows of so many units' files.
+fn make_filing(units: usize, random: &mut Random) -> Filing {
+    let suppliers = random.distinct(units.div_ceil(UNITS_OF_A_SUPPLIER), 1, 999);
+    let mut numbers = random.distinct(units, 1, 9_999);
+    numbers.sort();
+    let constraint = Constraint { hour: HOUR, relief: 1, cutoff: CUTOFF };
+    let mut filing = Filing { constraint, supply: Vec::new(), schedules: Vec::new() };
+    for (index, unit) in numbers.into_iter().enumerate() {
+        let cost = random.between(1_800, 6_000);
+        filing.supply.extend(make_segments(unit, suppliers[index % suppliers.len()], cost, random));
+        filing.schedules.extend(make_schedules(unit, cost, random));
+    }
+    filing.constraint.relief = choose_relief(&mut filing);
+    filing
+}
+
+/// The supply rows of a unit, from a cost upwards. One unit in ten is too far off to be eligible.
+fn make_segments(unit: u64, supplier: u64, mut cost: u64, random: &mut Random) -> Vec<Supply> {
+    let size = match random.once_in(10) {
+        true => random.between(0, CUTOFF - 1) as i64,
+        false => random.between(CUTOFF, 9_500) as i64,
+    };
+    let dfax = if random.percent(30) { -size } else { size };
+    let segment = |_| {
+        cost += cost * random.between(2, 12) / 100;
+        Supply { unit, supplier, mw: random.between(100, 1_200), cost, dfax }
+    };
+    (0..SEGMENTS).map(segment).collect()
+}
+
+/// The schedules of a unit around a cost: the first market-based and above it, the others cost-based. One unit in
+/// eight has cost-based ones alone.
+fn make_schedules(unit: u64, cost: u64, random: &mut Random) -> Vec<Schedule> {
+    let market_based = !random.once_in(8);
+    let mut rows = Vec::new();
+    for (number, &hours) in (1..).zip(random.pick(&SPLITS)) {
+        let kind = if number == 1 && market_based { Kind::M } else { Kind::C };
+        let markup = if kind == Kind::M { random.between(105, 140) } else { random.between(90, 120) };
+        let first = Schedule {
+            unit,
+            schedule: number,
+            kind,
+            hour: HOUR,
+            ecomin: random.between(100, 2_500),
+            price: cost * markup / 100,
+            noload: random.between(10_000, 800_000),
+            startup: random.between(100_000, 9_000_000),
+            minrun: random.between(1, hours),
+        };
+        let price = |random: &mut Random| first.price * random.between(90, 115) / 100;
+        rows.extend((HOUR..HOUR + hours).map(|hour| Schedule { hour, price: price(random), ..first }));
+    }
+    rows
+}
+
+/// A relief at which about as many suppliers pass as fail: the best percentage of the eligible supply.
+fn choose_relief(filing: &mut Filing) -> u64 {
+    let supply = supply_of(filing.supply.iter().filter(|row| eligible(row, CUTOFF)));
+    let reliefs = (1..100).rev().map(|percent| (supply * percent / 100 / NEED_OF_A_RELIEF).max(1));
+    let unevenness = |&relief: &u64| {
+        filing.constraint.relief = relief;
+        let tested = test_suppliers(filing, &Market::of(filing));
+        let passing = tested.values().filter(|tested| tested.verdict == Verdict::P).count();
+        (2 * passing).abs_diff(tested.len())
+    };
+    reliefs.min_by_key(unevenness).expect("there are percentages")
+}
+
+#[cfg(test)]
+mod tests {
+    use super::*;
+    use capping_model::generator::sheet::LARGEST_FILE;
+
+    fn read(study: &Study) -> Filing {
+        Filing::read(&study.files.lend()).expect("a study that is accepted")
+    }
+
+    #[test]
+    fn the_largest_study_is_at_every_limit() {
+        let sizes = Study::make(256, Layout::Shuffled);
+        assert_eq!((sizes.supply_rows, sizes.schedule_rows), (256, 1_024));
+        let filing = read(&sizes);
+        assert_eq!((filing.units().len(), filing.suppliers().len()), (64, 32));
+        assert_eq!((filing.supply.len(), filing.schedules.len()), (256, 1_024));
+    }
+
+    #[test]
+    fn every_market_clears() {
+        for study in make_all() {
+            assert!(Market::of(&read(&study)).relevant.is_some(), "{study}");
+            assert!(study.files.0.iter().all(|file| file.len() <= LARGEST_FILE), "{study}");
+        }
+    }
+
+    #[test]
+    fn suppliers_of_larger_markets_pass_and_fail() {
+        for study in make_all().into_iter().filter(|study| study.supply_rows >= 64) {
+            let filing = read(&study);
+            let tested = test_suppliers(&filing, &Market::of(&filing));
+            for verdict in [Verdict::P, Verdict::F] {
+                let count = tested.values().filter(|tested| tested.verdict == verdict).count();
+                assert!(count >= tested.len() / 4, "{study}: {count} {verdict:?}");
+            }
+        }
+    }
+
+    #[test]
+    fn layouts_have_the_same_rows() {
+        let [plain, shuffled, quoted] = Layout::ALL.map(|layout| Study::make(64, layout));
+        assert_eq!(plain.bytes(), shuffled.bytes());
+        assert_ne!(plain.files, shuffled.files);
+        let fields = 3 * 2 + 5 * (64 + 1) + 9 * (256 + 1);
+        assert_eq!(quoted.bytes(), plain.bytes() + 2 * fields);
+    }
+}

@@ -1,0 +1,96 @@
+//! The rounds: in each, every engine studies and checks every study once, so that a load of the machine hits all
+//! alike.
+
+use std::hint::black_box;
+use std::time::{Duration, Instant};
+
+use capping_model::answer::LONGEST;
+
+use crate::engine::{Call, Engine};
+use crate::study::Study;
+
+pub const ROUNDS: usize = 400;
+
+/// How long the calls of one engine on one study took, in nanoseconds.
+#[derive(Clone, Default)]
+pub struct Times(Vec<f64>);
+
+impl Times {
+    fn add(&mut self, time: Duration) {
+        self.0.push(time.as_nanos() as f64);
+    }
+
+    pub fn calls(&self) -> usize {
+        self.0.len()
+    }
+
+    pub fn least(&self) -> f64 {
+        self.0.iter().copied().fold(f64::INFINITY, f64::min)
+    }
+
+    /// The middle one, or the mean of the two.
+    pub fn median(&self) -> f64 {
+        let mut sorted = self.0.clone();
+        sorted.sort_by(f64::total_cmp);
+        let middle = sorted.len() / 2;
+        (sorted[middle] + sorted[(sorted.len() - 1) / 2]) / 2.0
+    }
+}
+
+/// What was measured on a study, by engine: its study and its check.
+pub struct Measured<'a> {
+    pub study: &'a Study,
+    times: Vec<[Times; 2]>,
+}
+
+impl Measured<'_> {
+    pub fn times(&self, engine: usize, call: Call) -> &Times {
+        &self.times[engine][call as usize]
+    }
+}
+
+/// Times all calls.
+pub fn measure<'a>(engines: &[Engine], studies: &'a [Study]) -> Vec<Measured<'a>> {
+    let none = |study| Measured { study, times: vec![Default::default(); engines.len()] };
+    let mut all: Vec<Measured> = studies.iter().map(none).collect();
+    for round in 0..ROUNDS {
+        for measured in &mut all {
+            measure_round(round, engines, measured);
+        }
+    }
+    all
+}
+
+/// The calls that one round has on one study.
+fn measure_round(round: usize, engines: &[Engine], measured: &mut Measured) {
+    let files = measured.study.files.lend();
+    let mut buffer = [0; LONGEST];
+    for (engine, times) in engines.iter().zip(&mut measured.times) {
+        if round.is_multiple_of(engine.rounds_a_call) {
+            times[Call::Study as usize]
+                .add(time(|| (engine.study)(black_box(&files), black_box(&mut buffer))));
+            times[Call::Check as usize].add(time(|| (engine.check)(black_box(&files))));
+        }
+    }
+}
+
+/// How long a call takes right after another such call: so none pays for what the one of another engine has left
+/// in the processor's caches.
+fn time<T>(mut call: impl FnMut() -> T) -> Duration {
+    black_box(call());
+    let start = Instant::now();
+    black_box(call());
+    start.elapsed()
+}
+
+#[cfg(test)]
+mod tests {
+    use super::*;
+
+    #[test]
+    fn the_median_is_in_the_middle() {
+        assert_eq!(Times(vec![5.0, 1.0, 9.0]).median(), 5.0);
+        assert_eq!(Times(vec![5.0, 1.0, 9.0, 7.0]).median(), 6.0);
+        assert_eq!(Times(vec![5.0, 1.0, 9.0]).least(), 1.0);
+    }
+}

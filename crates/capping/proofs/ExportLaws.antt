@@ -26,12 +26,12 @@ use Rattle.capping.specs.Exports.{
   testNumber,
   testLeft,
 }
-use Rattle.capping.specs.Studying.{studyAnswer, Studies, AnswersRight}
-use Rattle.capping.specs.View.{viewOf}
-use Rattle.capping.specs.declared.day.Day.{Day}
-use Rattle.capping.specs.declared.studying.Study.{Study}
-use Rattle.capping.specs.declared.studying.Study.the-variants.{Written, Refused}
-use Rattle.capping.specs.declared.studying.Studied.{Studied}
+use Rattle.engine.specs.Studying.{studyAnswer, Studies, AnswersRight}
+use Rattle.engine.specs.View.{viewOf}
+use Rattle.engine.specs.declared.day.Day.{Day}
+use Rattle.engine.specs.declared.studying.Study.{Study}
+use Rattle.engine.specs.declared.studying.Study.the-variants.{Written, Refused}
+use Rattle.engine.specs.declared.studying.Studied.{Studied}
 
 -- the count and the report of each outcome
 count-told : (n : ℕ) (o : Option Refusal) → answerCount (studyAnswer n o) ≡ countWritten n o

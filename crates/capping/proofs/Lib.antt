@@ -1,10 +1,2 @@
-pub mod AskingLaws
 pub mod CheckLaws
-pub mod CommitLaws
 pub mod ExportLaws
-pub mod FormingLaws
-pub mod ReleaseLaws
-pub mod StudyCells
-pub mod StudyFits
-pub mod StudyLaws
-pub mod ViewLaws

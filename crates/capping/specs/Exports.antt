@@ -15,8 +15,8 @@ use Rattle.pivotal.specs.declared.Verdict.the-variants.{P, F}
 use Rattle.judge.specs.Day.{freshDay}
 use Rattle.judge.specs.Right.{Right}
 use Rattle.judge.specs.Study.{answerFile, studied}
-use Rattle.capping.specs.declared.studying.Study.{Study}
-use Rattle.capping.specs.declared.studying.Study.the-variants.{Written, Refused}
+use Rattle.engine.specs.declared.studying.Study.{Study}
+use Rattle.engine.specs.declared.studying.Study.the-variants.{Written, Refused}
 
 -- how many bytes a study wrote of a text of n: none where it is refused
 unfoldable pub countWritten : ℕ → Option Refusal → ℕ

@@ -1,6 +1,1 @@
-pub mod Asking
-pub mod Committing
 pub mod Exports
-pub mod Releasing
-pub mod Studying
-pub mod View

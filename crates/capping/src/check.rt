@@ -2,10 +2,10 @@
 // as 9. Assumes nothing of the bytes.
 ghost use mathlib.Core.Path.{_≡_};
 ghost use Rattle.filing.specs.Filing.{checkNumber};
-use crate::sizes::CONSTRAINT_CELLS;
-use crate::sizes::SCHEDULE_CELLS;
-use crate::sizes::SUPPLY_CELLS;
-use crate::sizes::UNITS;
+use engine::CONSTRAINT_CELLS;
+use engine::SCHEDULE_CELLS;
+use engine::SUPPLY_CELLS;
+use engine::UNITS;
 use filing::Filed;
 
 #[no_mangle]

@@ -3,8 +3,8 @@
 ghost use mathlib.Core.Path.{_≡_};
 ghost use Rattle.pivotal.specs.Test.{tested};
 ghost use Rattle.capping.specs.Exports.{answerCount, answerRefusal, FreshStudy, FreshRight, cellsOf, verdictNumber, testNumber, testLeft};
-use crate::day::Day;
-use crate::studying::Study;
+use engine::Day;
+use engine::Study;
 use pivotal::Answer;
 use pivotal::Verdict;
 use tables::Refusal;

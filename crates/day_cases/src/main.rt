@@ -1,9 +1,6 @@
 // Cases of release, one line for each: the answer, and then the day with its hour, its count and the
 // units that it counts. The file `stdout` is what a transcription of document 01 answered that knows
 // nothing of this engine. Assumes nothing.
-use capping::Day;
-use capping::LastHour;
-use capping::Release;
 use days::C;
 use days::M;
 use days::day;
@@ -11,6 +8,9 @@ use days::full;
 use days::print;
 use days::print_day;
 use days::print_refusal;
+use engine::Day;
+use engine::LastHour;
+use engine::Release;
 
 const LARGEST: u64 = 0xFFFF_FFFF_FFFF_FFFF;
 

@@ -1,8 +1,8 @@
 // The days of the cases, made by hand, well-formed or not. Assumes nothing.
 ghost use Prim.Native.Nat.{_<_};
-use capping::Day;
-use capping::LastHour;
-use capping::Running;
+use engine::Day;
+use engine::LastHour;
+use engine::Running;
 use tables::Kind;
 
 // The letters of the kinds.

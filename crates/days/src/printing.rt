@@ -1,7 +1,7 @@
 // How cases print a refusal and a day. Assumes nothing.
-use capping::Day;
-use capping::LastHour;
-use capping::Running;
+use engine::Day;
+use engine::LastHour;
+use engine::Running;
 use libc::STDOUT_FILENO;
 use tables::Kind;
 use tables::Refusal;

@@ -17,10 +17,10 @@ use crate::words::after;
 use crate::words::first;
 use crate::words::from;
 use crate::words::is;
-use capping::Day;
-use capping::Release;
-use capping::Study;
 use capping::capping_check;
+use engine::Day;
+use engine::Release;
+use engine::Study;
 use pivotal::Verdict;
 
 const LARGEST: u64 = 0xFFFF_FFFF_FFFF_FFFF;

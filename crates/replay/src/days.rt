@@ -11,9 +11,9 @@ use crate::words::end;
 use crate::words::first;
 use crate::words::from;
 use crate::words::is;
-use capping::Day;
-use capping::LastHour;
-use capping::Running;
+use engine::Day;
+use engine::LastHour;
+use engine::Running;
 use tables::Kind;
 
 // The most units that a day is read with.

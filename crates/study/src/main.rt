@@ -2,8 +2,8 @@
 // the answer file, or why there is none. Assumes nothing of the folder. What a file holds and what is
 // printed can't be said in a contract; what a study of those bytes gives is said by `Day::study`.
 ghost use Rattle.io.specs.Counts.{Counts};
-use capping::Day;
-use capping::Study;
+use engine::Day;
+use engine::Study;
 use libc::STDOUT_FILENO;
 use tables::Refusal;
 

@@ -4,10 +4,6 @@
 // answered that knows nothing of this engine. Assumes nothing.
 ghost use Prim.Native.Nat.{_≤_};
 ghost use lib.ListN.{length};
-use capping::Day;
-use capping::LastHour;
-use capping::Running;
-use capping::Study;
 use days::C;
 use days::M;
 use days::day;
@@ -15,6 +11,10 @@ use days::full;
 use days::print;
 use days::print_day;
 use days::print_refusal;
+use engine::Day;
+use engine::LastHour;
+use engine::Running;
+use engine::Study;
 use libc::STDOUT_FILENO;
 use tables::Kind;
 

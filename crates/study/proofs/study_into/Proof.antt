@@ -1,5 +1,5 @@
 -- What was written lies in the room. Assumes nothing.
-use Rattle.capping.proofs.StudyLaws.{written-within}
+use Rattle.engine.proofs.StudyLaws.{written-within}
 use borrow.Author.Needs.{needs}
 use Rattle.study.proofs.study_into.Statement.{statement}
 use Rattle.study.proofs.study_into.Tie as tie

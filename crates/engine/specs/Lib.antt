@@ -1,0 +1,5 @@
+pub mod Asking
+pub mod Committing
+pub mod Releasing
+pub mod Studying
+pub mod View

@@ -2,6 +2,7 @@ pub mod CheckLaws
 pub mod FilingLaws
 pub mod GatherLaws
 pub mod KeptLaws
+pub mod LinkLaws
 pub mod NumberLaws
 pub mod OddsLaws
 pub mod Rooms

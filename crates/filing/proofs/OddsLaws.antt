@@ -1,22 +1,25 @@
 -- Laws of rows at odds, over plain lists: a pair of rows, a row against those before it, and the first such row. Assumes
 -- nothing.
-use Prim.Native.Nat.{ℕ, suc, _+_, _-_, _≤_, _<_}
+use Prim.Native.Nat.{ℕ, zero, suc, _+_, _≤_, _<_}
 use mathlib.Core.Path.{_≡_, refl, sym, _∙_}
+use mathlib.Core.Logic.{⊎-elim}
 use mathlib.Core.Bool.{Bool, true, false, not, or-true, or-false}
-use mathlib.Core.List.{List, _∷_}
+use mathlib.Core.List.{List}
 use mathlib.Core.Option.{Option·getD}
 use native.Mathlib.Omega.{arith}
 use native.Mathlib.Numerals.{add-one}
 use lib.Dec.{eqb}
-use lib.ListN.{drop}
+use lib.ListN.{getD, drop}
 use borrow.Author.Tests.{eq-eqb, ne-eqb}
 use Rattle.base.specs.Search.{any, firstAtOdds}
-use Rattle.base.proofs.Finds.{any-none, any-here, any-later}
+use Rattle.base.proofs.Tests.{eq-or-ne, false-true}
 use Rattle.tables.specs.Rows.{ScheduleRow, scheduleRows}
 use Rattle.tables.specs.Table.{M}
 use Rattle.tables.proofs.RowViews.{scheduleAt, schedule-next}
-use Rattle.filing.specs.Answers.{earlier, alike, bothMarket}
+use Rattle.filing.specs.Answers.{earlier, oddWith, alike, bothMarket}
+use Rattle.filing.specs.Links.{LinkedTo, anyBefore, Along, unitKey, scheduleKey}
 use Rattle.filing.specs.Schedules.{sameSchedule, unlike, repeats, secondM, scheduleOdds, schedulesAtOdds}
+use Rattle.filing.proofs.LinkLaws.{along-row}
 use Rattle.filing.proofs.ScheduleLaws.{rows-end}
 
 -- two rows, by the tests in their order
@@ -62,41 +65,40 @@ module _ (r e : ScheduleRow) where
     unfolding alike
     unlike-minruns x y s is is-e = rw (is, is-e) (simp (eq-eqb (r .kind) (e .kind) k, eq-eqb (r .startup) (e .startup) s))
 
--- row k against the rows before it, of which j are left
-pub record Backward (cells : List ℕ) (k j : ℕ) : Type 0 where
-  pub upto : j ≤ k
-  pub rest : any (scheduleOdds (scheduleAt cells k)) (earlier cells k) ≡ any (scheduleOdds (scheduleAt cells k)) (earlier cells j)
+-- rows at odds are of one unit, and of one schedule where the later is not market-based
+module _ (r e : ScheduleRow) (odd : scheduleOdds r e ≡ true) where
+  odd-unit : r .unit ≡ e .unit
+  odd-unit = ⊎-elim (λ u. u) (λ u. false-true (odds-units r e u ∙ odd)) (eq-or-ne (r .unit) (e .unit))
 
-module _ (cells : List ℕ) (k : ℕ) where
-  pub backward-none : (j : ℕ) → j ≡ k → Backward cells k j
-  backward-none j e = record { upto = omega arith; rest = rw e }
+  odd-schedule : (r .kind ≡ M → ⊥) → r .schedule ≡ e .schedule
+  odd-schedule k =
+      ⊎-elim (λ s. s) (λ s. false-true (market-not r e k ∙ odds-schedules r e odd-unit s ∙ odd)) (eq-or-ne (r .schedule) (e .schedule))
 
-  earlier-next : (j : ℕ) → 0 < j → earlier cells j ≡ scheduleAt cells (j - 1) ∷ earlier cells (j - 1)
-  unfolding earlier
-  earlier-next j h =
-      let one-less : j ≡ suc (j - 1) = omega arith in
-      rw one-less (rw less)
-    where
-      less : suc (j - 1) - 1 ≡ j - 1
-      less = omega arith
+-- row k against the rows before it, by their places and along links
+module _ (cells : List ℕ) where
+  pub earlier-any : (q : ScheduleRow → Bool) (k : ℕ) → any q (earlier cells k) ≡ anyBefore (λ (j : ℕ). q (scheduleAt cells j)) k
+  unfolding any earlier anyBefore
+  earlier-any q zero = refl
+  earlier-any q (suc k) = rw (earlier-any q k)
 
-  module _ (j : ℕ) (t : Bool) (l : Backward cells k j) (h : 0 < j) (is : t ≡ scheduleOdds (scheduleAt cells k) (scheduleAt cells (j - 1))) where
-    pub backward-here : t ≡ true → true ≡ any (scheduleOdds (scheduleAt cells k)) (earlier cells k)
-    backward-here e =
-        sym (l .rest ∙ rw (earlier-next j h) (any-here (scheduleOdds (scheduleAt cells k)) (scheduleAt cells (j - 1)) _ (sym is ∙ e)))
+  module _ (k : ℕ) (links : List ℕ) where
+    pub along-units : LinkedTo (unitKey cells) k links → Along (oddWith cells k) k links (getD links k 0)
+    along-units l = along-row (unitKey cells) (oddWith cells k) k links l alike
+      where
+        alike : (j : ℕ) → oddWith cells k j ≡ true → unitKey cells j ≡ unitKey cells k
+        alike j odd = rw (odd-unit (scheduleAt cells k) (scheduleAt cells j) odd)
 
-    pub backward-next : t ≡ false → Backward cells k (j - 1)
-    backward-next e =
-        record {
-          upto = omega (arith, l .upto);
-          rest = l .rest ∙ rw (earlier-next j h) (any-later (scheduleOdds (scheduleAt cells k)) (scheduleAt cells (j - 1)) _ (sym is ∙ e));
-        }
-
-  pub backward-over : (j : ℕ) → Backward cells k j → j ≤ 0 → false ≡ any (scheduleOdds (scheduleAt cells k)) (earlier cells k)
-  unfolding earlier
-  backward-over j l h =
-      let none-left : j ≡ 0 = omega arith in
-      sym (l .rest ∙ rw none-left (any-none (scheduleOdds (scheduleAt cells k))))
+    pub along-schedules :
+        (scheduleAt cells k .kind ≡ M → ⊥) → LinkedTo (scheduleKey cells) k links →
+        Along (oddWith cells k) k links (getD links k 0)
+    along-schedules m l = along-row (scheduleKey cells) (oddWith cells k) k links l alike
+      where
+        alike : (j : ℕ) → oddWith cells k j ≡ true → scheduleKey cells j ≡ scheduleKey cells k
+        alike j odd =
+            rw (
+              odd-unit (scheduleAt cells k) (scheduleAt cells j) odd,
+              odd-schedule (scheduleAt cells k) (scheduleAt cells j) odd m,
+            )
 
 -- of n rows k are passed, none of them at odds
 pub record Agreeing (n : ℕ) (cells : List ℕ) (k : ℕ) : Type 0 where

@@ -8,6 +8,7 @@ use Rattle.base.specs.Search.{any}
 use Rattle.tables.specs.Rows.{ScheduleRow}
 use Rattle.tables.specs.Table.{M}
 use Rattle.tables.proofs.RowViews.{scheduleAt}
+use Rattle.filing.specs.Schedules.{scheduleOdds}
 use Rattle.filing.specs.declared.schedules.Lowest.{Lowest}
 use Rattle.filing.specs.declared.schedules.Lowest.the-variants.{Number, Nothing}
 
@@ -20,6 +21,10 @@ lowestOf (some u) = Number u
 unfoldable pub earlier : List ℕ → ℕ → List ScheduleRow
 earlier cells zero = []
 earlier cells (suc k) = scheduleAt cells k ∷ earlier cells k
+
+-- whether row k is at odds with row j
+abbrev pub oddWith : List ℕ → ℕ → ℕ → Bool
+oddWith cells k j = scheduleOdds (scheduleAt cells k) (scheduleAt cells j)
 
 -- whether two rows are alike in what rows of one schedule share
 unfoldable pub alike : ScheduleRow → ScheduleRow → Bool

@@ -4,6 +4,7 @@ pub mod Filed
 pub mod Filing
 pub mod Gathered
 pub mod Kept
+pub mod Links
 pub mod Numbers
 pub mod Ranges
 pub mod Runs

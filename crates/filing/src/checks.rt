@@ -4,8 +4,13 @@ ghost use Prim.Native.Nat.{_*_, _≤_, _<_};
 ghost use lib.ListN.{length, take};
 ghost use Rattle.tables.specs.Rows.{supplyRows, scheduleRows};
 ghost use Rattle.filing.specs.Checks.{schedulesChecked, runsChecked, SupplyChecked, InHoursOf};
+ghost use Rattle.filing.specs.Links.{Linked, unitKey, scheduleKey};
 ghost use Rattle.filing.specs.Ranges.{Checked};
 ghost use Rattle.filing.specs.Supply.{mostUnits};
+use crate::links::SCHEDULE_LINKS;
+use crate::links::UNIT_LINKS;
+use crate::links::link_schedules;
+use crate::links::link_units;
 use crate::odds::schedules_at_odds;
 use crate::runs::lacking;
 use crate::schedules::Lowest;
@@ -67,7 +72,31 @@ pub fn check_schedules(
     requires { ⌜ InHoursOf hour (scheduleRows n (now cells)) ⌝ }
     ensures { λ r. ⌜ r ≡ schedulesChecked hour (take count (now (units .entry))) (scheduleRows n (now (cells .entry))) ⌝ }
 {
-    let odd = schedules_at_odds(cells, n);
+    let mut by_unit = [0usize; UNIT_LINKS];
+    let mut by_schedule = [0usize; SCHEDULE_LINKS];
+    link_units(cells, n, &mut by_unit);
+    link_schedules(cells, n, &mut by_schedule);
+    check_linked(cells, n, &by_unit, &by_schedule, units, count, hour)
+}
+
+// Checks n schedule rows that are linked by unit, and by unit and schedule.
+fn check_linked(
+    cells: &[u64],
+    n: usize,
+    by_unit: &[usize],
+    by_schedule: &[usize],
+    units: &[u64],
+    count: usize,
+    hour: u64,
+) -> ScheduleCheck
+    requires { ⌜ n * 9 ≤ length (now cells) ⌝ }
+    requires { ⌜ Linked (unitKey (now cells)) n (now «by_unit») ⌝ }
+    requires { ⌜ Linked (scheduleKey (now cells)) n (now «by_schedule») ⌝ }
+    requires { ⌜ count ≤ length (now units) ⌝ }
+    requires { ⌜ InHoursOf hour (scheduleRows n (now cells)) ⌝ }
+    ensures { λ r. ⌜ r ≡ schedulesChecked hour (take count (now (units .entry))) (scheduleRows n (now (cells .entry))) ⌝ }
+{
+    let odd = schedules_at_odds(cells, n, by_unit, by_schedule);
     if odd != 0 {
         return ScheduleCheck::AtOdds(odd);
     }

@@ -2,6 +2,7 @@
 mod checks;
 mod files;
 mod gathering;
+mod links;
 mod numbers;
 mod odds;
 mod runs;

@@ -5,11 +5,12 @@ ghost use mathlib.Core.Path.{_≡_};
 ghost use mathlib.Core.Bool.{not};
 ghost use mathlib.Core.Option.{Option·getD};
 ghost use Prim.Native.Nat.{_+_, _*_, _≤_, _<_};
-ghost use lib.ListN.{length};
+ghost use lib.ListN.{length, getD};
 ghost use Rattle.base.specs.Search.{any};
 ghost use Rattle.tables.specs.Rows.{scheduleRows};
 ghost use Rattle.tables.proofs.RowViews.{scheduleAt};
-ghost use Rattle.filing.specs.Answers.{alike, bothMarket, earlier};
+ghost use Rattle.filing.specs.Answers.{alike, bothMarket, earlier, oddWith};
+ghost use Rattle.filing.specs.Links.{Linked, LinkedTo, Along, unitKey, scheduleKey};
 ghost use Rattle.filing.specs.Schedules.{scheduleOdds, schedulesAtOdds};
 use crate::schedules::HOUR;
 use crate::schedules::KIND;
@@ -23,13 +24,15 @@ use crate::schedules::cell;
 const MARKET: u64 = 77;
 
 // The first row at odds with an earlier one, counted from 1; 0 where there is none.
-pub fn schedules_at_odds(cells: &[u64], n: usize) -> usize
+pub fn schedules_at_odds(cells: &[u64], n: usize, by_unit: &[usize], by_schedule: &[usize]) -> usize
     requires { ⌜ n * 9 ≤ length (now cells) ⌝ }
+    requires { ⌜ Linked (unitKey (now cells)) n (now «by_unit») ⌝ }
+    requires { ⌜ Linked (scheduleKey (now cells)) n (now «by_schedule») ⌝ }
     ensures { λ r. ⌜ r ≡ Option·getD (schedulesAtOdds (scheduleRows n (now (cells .entry)))) 0 ⌝ }
 {
     let mut k = 0;
     while k < n {
-        if at_odds_before(cells, k) {
+        if at_odds_before(cells, k, by_unit, by_schedule) {
             return k + 1;
         }
         k += 1;
@@ -37,17 +40,34 @@ pub fn schedules_at_odds(cells: &[u64], n: usize) -> usize
     0
 }
 
-// Whether row `k` is at odds with one before it.
-fn at_odds_before(cells: &[u64], k: usize) -> bool
+// Whether row `k` is at odds with one before it. Only an M row can be so with one of another
+// schedule, of which its unit then has no more than hours in a day.
+fn at_odds_before(cells: &[u64], k: usize, by_unit: &[usize], by_schedule: &[usize]) -> bool
     requires { ⌜ k * 9 + 9 ≤ length (now cells) ⌝ }
+    requires { ⌜ LinkedTo (unitKey (now cells)) k (now «by_unit») ⌝ }
+    requires { ⌜ LinkedTo (scheduleKey (now cells)) k (now «by_schedule») ⌝ }
     ensures { λ r. ⌜ r ≡ any (scheduleOdds (scheduleAt (now (cells .entry)) k)) (earlier (now (cells .entry)) k) ⌝ }
 {
-    let mut j = k;
-    while 0 < j {
-        j -= 1;
+    if cell(cells, k, KIND) == MARKET {
+        return at_odds_along(cells, k, by_unit);
+    }
+    at_odds_along(cells, k, by_schedule)
+}
+
+// Whether row `k` is at odds with one that its links lead to.
+fn at_odds_along(cells: &[u64], k: usize, links: &[usize]) -> bool
+    requires { ⌜ k * 9 + 9 ≤ length (now cells) ⌝ }
+    requires { ⌜ k < length (now links) ⌝ }
+    requires { ⌜ Along (oddWith (now cells) k) k (now links) (getD (now links) k 0) ⌝ }
+    ensures { λ r. ⌜ r ≡ any (scheduleOdds (scheduleAt (now (cells .entry)) k)) (earlier (now (cells .entry)) k) ⌝ }
+{
+    let mut left = links[k];
+    while 0 < left {
+        let j = left - 1;
         if at_odds(cells, k, j) {
             return true;
         }
+        left = links[j];
     }
     false
 }

@@ -1,51 +1,44 @@
--- Rules 6 to 8 over schedule rows, then 9. Assumes nothing.
-use mathlib.Core.List.{[]}
-use Rattle.filing.proofs.CheckLaws.{check-odds, check-strange, check-unscheduled, check-runs-asked, check-runs}
+-- Schedule rows linked, then checked. Assumes nothing.
+use Prim.Native.Nat.{ℕ, _+_}
+use mathlib.Core.Path.{refl}
+use Rattle.filing.proofs.LinkLaws.{unlinked}
 use borrow.Author.Needs.{needs}
 use Rattle.filing.proofs.checks.check_schedules.Statement.{statement}
 use Rattle.filing.proofs.checks.check_schedules.Tie as tie
 
-schedules-at-odds-requires : tie.Need-schedules-at-odds-requires
-schedules-at-odds-requires c κs = search needs
+slice-aggregate-link-units : tie.Need-slice-aggregate-link-units
+slice-aggregate-link-units c = search needs
+
+link-units-requires : tie.Need-link-units-requires
+link-units-requires c κs = let pre = c .before .before .before .pre in (pre .0, (pre .1 .0, (refl, λ (x : ℕ). unlinked 2048 (1024 + x))))
+
+slice-aggregate-link-schedules : tie.Need-slice-aggregate-link-schedules
+slice-aggregate-link-schedules c = search needs
+
+link-schedules-requires : tie.Need-link-schedules-requires
+link-schedules-requires c κs = let pre = c .before .before .before .before .before .before .pre in (pre .0, (pre .1 .0, (refl, λ (x : ℕ). unlinked 3063 (1024 + x))))
+
+slice-aggregate-check-linked : tie.Need-slice-aggregate-check-linked
+slice-aggregate-check-linked c = search needs
+
+slice-aggregate-check-linked-2 : tie.Need-slice-aggregate-check-linked-2
+slice-aggregate-check-linked-2 c = search needs
+
+check-linked-requires : tie.Need-check-linked-requires
+check-linked-requires c κs = let pre = c .before .before .before .before .before .before .before .before .before .before .pre in (pre .1 .0, (c .before .before .before .before .before .before .link-units .ensures, (c .before .before .before .link-schedules .ensures, pre .1 .1)))
 
 returns : tie.Need-returns
-returns c = check-odds _ _ _ _ (c .before .schedules-at-odds .ensures) (c .if1 .taken)
-
-strange-requires : tie.Need-strange-requires
-strange-requires c κs = search needs
-
-returns-2 : tie.Need-returns-2
-returns-2 c = check-strange _ _ _ _ (c .before .before .before .schedules-at-odds .ensures) (c .before .before .if1 .left) _ (c .before .strange .ensures) (c .if2 .taken)
-
-unscheduled-requires : tie.Need-unscheduled-requires
-unscheduled-requires c κs = search needs
-
-enum-known-bare : tie.Need-enum-known-bare
-enum-known-bare c = search needs
-
-enum-told : tie.Need-enum-told
-enum-told c = search needs
-
-check-runs-requires : tie.Need-check-runs-requires
-check-runs-requires c κs = (c .before .before .before .before .before .before .before .before .before .pre .0, (c .before .before .before .before .before .before .before .before .before .pre .1 .0, (c .before .before .before .before .before .before .before .before .before .pre .1 .1 .0, check-runs-asked _ [] _ _ (c .before .before .before .before .before .before .schedules-at-odds .ensures) (c .before .before .before .before .before .if1 .left) (c .before .before .before .before .before .before .before .before .before .pre .1 .1 .1))))
-
-returns-3 : tie.Need-returns-3
-returns-3 c = check-unscheduled _ _ _ _ (c .before .before .before .before .before .before .before .schedules-at-odds .ensures) (c .before .before .before .before .before .before .if1 .left) _ (c .before .before .before .before .before .strange .ensures) (c .before .before .before .before .if2 .left) (c .before .before .before .unscheduled .ensures) (c .before .bare .given .1)
-
-returns-4 : tie.Need-returns-4
-returns-4 c = check-runs _ _ _ _ (c .before .before .before .before .before .before .before .schedules-at-odds .ensures) (c .before .before .before .before .before .before .if1 .left) _ (c .before .before .before .before .before .strange .ensures) (c .before .before .before .before .if2 .left) (c .before .before .before .unscheduled .ensures) (c .before .enum-told .given .1) (c .check-runs .ensures)
+returns c = c .check-linked .ensures
 
 pub check-schedules-spec : {M : Type 1} → statement M
 check-schedules-spec =
     tie.close
     (tie.spec
-    schedules-at-odds-requires
-    returns
-    strange-requires
-    returns-2
-    unscheduled-requires
-    enum-known-bare
-    enum-told
-    check-runs-requires
-    returns-3
-    returns-4)
+    slice-aggregate-link-units
+    link-units-requires
+    slice-aggregate-link-schedules
+    link-schedules-requires
+    slice-aggregate-check-linked
+    slice-aggregate-check-linked-2
+    check-linked-requires
+    returns)

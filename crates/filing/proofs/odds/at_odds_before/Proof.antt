@@ -1,46 +1,31 @@
--- A row against those before it, the last first. Assumes nothing.
+-- An M row against those of its unit, another against those of its schedule. Assumes nothing.
+use Rattle.filing.proofs.OddsLaws.{along-units, along-schedules}
 use native.Mathlib.Omega.{arith}
-use Rattle.filing.proofs.OddsLaws.{Backward, backward-none, backward-here, backward-next, backward-over}
+use borrow.Author.Needs.{needs}
 use Rattle.filing.proofs.odds.at_odds_before.Statement.{statement}
 use Rattle.filing.proofs.odds.at_odds_before.Tie as tie
 
-abbrev Inv-loop : tie.InvT-loop
-Inv-loop cells k j₀ j = Backward cells k j
+cell-requires : tie.Need-cell-requires
+cell-requires c κs = search needs
 
-abbrev μ-loop : tie.MeasureT-loop
-μ-loop cells k j₀ j = j
+at-odds-along-requires : tie.Need-at-odds-along-requires
+at-odds-along-requires c κs = let a = c .before .before .before .before .before .args in let pre = c .before .before .before .before .before .pre in (pre .0, (pre .1 .0 .room, along-units (a .cells .now) (a .k) (a .by-unit .now) (pre .1 .0)))
 
-loop-holds : tie.Need-loop-holds Inv-loop μ-loop
-loop-holds c = backward-none _ _ _ (omega arith)
+returns : tie.Need-returns
+returns c = c .at-odds-along .ensures
 
-sub-j : tie.Need-sub-j Inv-loop μ-loop
-sub-j c = omega arith
+at-odds-along-requires-2 : tie.Need-at-odds-along-requires-2
+at-odds-along-requires-2 c κs = let a = c .before .before .before .before .before .args in let pre = c .before .before .before .before .before .pre in (pre .0, (pre .1 .1 .room, along-schedules (a .cells .now) (a .k) (a .by-schedule .now) (omega arith) (pre .1 .1)))
 
-at-odds-requires : tie.Need-at-odds-requires Inv-loop μ-loop
-at-odds-requires c κs = omega arith
-
-returns : tie.Need-returns Inv-loop μ-loop
-returns c = backward-here _ _ _ _ (c .before .before .before .loop .inv) (omega arith) (c .before .at-odds .ensures) (c .if1 .taken)
-
-loop-less : tie.Need-loop-less Inv-loop μ-loop
-loop-less c = omega arith
-
-loop-again : tie.Need-loop-again Inv-loop μ-loop
-loop-again c = backward-next _ _ _ _ (c .before .before .before .loop .inv) (omega arith) (c .before .at-odds .ensures) (c .if1 .left)
-
-returns-2 : tie.Need-returns-2 Inv-loop μ-loop
-returns-2 c = backward-over _ _ _ (c .before .loop .inv) (omega arith)
+returns-2 : tie.Need-returns-2
+returns-2 c = c .at-odds-along2 .ensures
 
 pub at-odds-before-spec : {M : Type 1} → statement M
 at-odds-before-spec =
     tie.close
     (tie.spec
-    Inv-loop
-    μ-loop
-    loop-holds
-    sub-j
-    at-odds-requires
+    cell-requires
+    at-odds-along-requires
     returns
-    loop-less
-    loop-again
+    at-odds-along-requires-2
     returns-2)

@@ -1,0 +1,69 @@
+-- Rows linked by a key: each row to the last one before it that has its key, and each key to the last row of all that has
+-- it. A search among rows of one key goes along the links. Assumes nothing.
+use Prim.Native.Nat.{ℕ, zero, suc, _+_, _*_, _≤_, _<_, _%_}
+use mathlib.Core.Path.{_≡_}
+use mathlib.Core.Bool.{Bool, true, false, cond, _||_}
+use mathlib.Core.List.{List}
+use lib.Dec.{eqb}
+use lib.ListN.{length, getD, set}
+
+-- one more than the place of the last of k rows that has the key x; 0 where none has
+unfoldable pub lastSame : (ℕ → ℕ) → ℕ → ℕ → ℕ
+lastSame key x zero = 0
+lastSame key x (suc k) =
+    let more = lastSame key x k in
+    cond (eqb (key k) x) (suc k) more
+
+-- the most rows that are linked: their links stand first in a run of links, and the keys' behind them
+abbrev pub mostLinked : ℕ
+mostLinked = 1024
+
+-- no key has a row yet
+abbrev pub Unlinked : List ℕ → Type 0
+Unlinked links = (x : ℕ) → getD links (mostLinked + x) 0 ≡ 0
+
+-- row k comes, with the key x
+abbrev pub linkedTo : List ℕ → ℕ → ℕ → List ℕ
+linkedTo links x k = set (set links k (getD links (mostLinked + x) 0)) (mostLinked + x) (k + 1)
+
+-- n rows are linked
+pub record Linked (key : ℕ → ℕ) (n : ℕ) (links : List ℕ) : Type 0 where
+  pub few : n ≤ mostLinked
+  pub room : mostLinked ≤ length links
+  pub rows : (k : ℕ) → k < n → getD links k 0 ≡ lastSame key (key k) k
+  pub keys : (x : ℕ) → mostLinked + x < length links → getD links (mostLinked + x) 0 ≡ lastSame key x n
+
+-- so are the rows as far as row k
+pub record LinkedTo (key : ℕ → ℕ) (k : ℕ) (links : List ℕ) : Type 0 where
+  pub room : k < length links
+  pub rows : (j : ℕ) → j ≤ k → getD links j 0 ≡ lastSame key (key j) j
+
+-- whether one of k places passes a test
+unfoldable pub anyBefore : (ℕ → Bool) → ℕ → Bool
+anyBefore p zero = false
+anyBefore p (suc k) = p k || anyBefore p k
+
+-- a search of k rows along links, of which `left` are left: what passes the test has one key, and so has the last that is left
+pub record Along (p : ℕ → Bool) (k : ℕ) (links : List ℕ) (left : ℕ) : Type 0 where
+  pub key : ℕ → ℕ
+  pub wanted : ℕ
+  pub alike : (j : ℕ) → p j ≡ true → key j ≡ wanted
+  pub linked : (j : ℕ) → j < k → getD links j 0 ≡ lastSame key (key j) j
+  pub room : k ≤ length links
+  pub upto : left ≤ k
+  pub on : (j : ℕ) → left ≡ suc j → key j ≡ wanted
+  pub rest : anyBefore p k ≡ anyBefore p left
+
+-- keys by unit, and by unit and schedule: any number is one, and rows of one unit or schedule share it
+abbrev pub byUnit : ℕ → ℕ
+byUnit unit = unit % 1024
+
+abbrev pub bySchedule : ℕ → ℕ → ℕ
+bySchedule unit schedule = (unit % 16384 * 128 + schedule % 128) % 2039
+
+-- the keys of schedule rows
+abbrev pub unitKey : List ℕ → ℕ → ℕ
+unitKey cells k = byUnit (getD cells (k * 9 + 0) 0)
+
+abbrev pub scheduleKey : List ℕ → ℕ → ℕ
+scheduleKey cells k = bySchedule (getD cells (k * 9 + 0) 0) (getD cells (k * 9 + 1) 0)

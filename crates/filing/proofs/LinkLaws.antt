@@ -1,17 +1,24 @@
 -- Laws of linked rows: how they come to be linked, and the search along links. Assumes nothing.
-use Prim.Native.Nat.{ℕ, zero, suc, _+_, _-_, _≤_, _<_}
+use Prim.Native.Nat.{ℕ, zero, suc, _+_, _-_, _*_, _≤_, _<_}
 use mathlib.Core.Path.{_≡_, refl, sym, _∙_, ap}
 use mathlib.Core.Logic.{⊎-elim}
-use mathlib.Core.Bool.{Bool, true, false, cond, _||_}
+use mathlib.Core.Bool.{Bool, true, false, cond, _||_, or-false}
 use mathlib.Core.List.{List}
 use native.Mathlib.Omega.{arith}
 use native.Mathlib.Numerals.{add-one}
 use lib.Dec.{eqb}
-use lib.ListN.{length, getD, set, replicate, length-set}
+use lib.ListN.{length, getD, drop, set, replicate, length-set}
 use lib.Seq.{getD-set-same, getD-set-other, lt-length-set}
 use borrow.Author.Tests.{eq-eqb, ne-eqb, eqb-true, eqb-false}
-use Rattle.base.proofs.Tests.{either, eq-or-ne, false-true}
-use Rattle.filing.specs.Links.{lastSame, mostLinked, Unlinked, linkedTo, Linked, LinkedTo, anyBefore, Along}
+use Rattle.base.specs.Rising.{among}
+use Rattle.base.specs.Search.{any}
+use Rattle.base.proofs.Tests.{either, eq-or-ne}
+use Rattle.tables.specs.Rows.{ScheduleRow, scheduleRows}
+use Rattle.tables.proofs.RowViews.{scheduleAt, schedule-next}
+use Rattle.filing.specs.Answers.{earlier, KnownBefore}
+use Rattle.filing.specs.Links.{lastSame, mostLinked, Unlinked, linkedTo, Linked, LinkedTo, anyBefore, Along, unitKeys, byUnit, unitKey}
+use Rattle.filing.proofs.ScheduleLaws.{rows-end}
+use Rattle.filing.proofs.UnitLaws.{one-of}
 
 -- where a run begins with zeros, no key has a row
 pub unlinked : (n i : ℕ) → getD {A = ℕ} (replicate n 0) i 0 ≡ 0
@@ -20,13 +27,13 @@ unlinked (suc n) zero = refl
 unlinked (suc n) (suc i) = unlinked n i
 
 -- of n rows k are linked
-pub record Linking (key : ℕ → ℕ) (n : ℕ) (old new : List ℕ) (k : ℕ) : Type 0 where
+pub record Linking (key : ℕ → ℕ) (keys n : ℕ) (old new : List ℕ) (k : ℕ) : Type 0 where
   pub upto : k ≤ n
   pub few : n ≤ mostLinked
-  pub room : mostLinked ≤ length new
+  pub room : mostLinked + keys ≤ length new
   pub same-length : length new ≡ length old
-  pub rows : (i : ℕ) → i < k → getD new i 0 ≡ lastSame key (key i) i
-  pub keys : (x : ℕ) → mostLinked + x < length new → getD new (mostLinked + x) 0 ≡ lastSame key x k
+  pub by-row : (i : ℕ) → i < k → getD new i 0 ≡ lastSame key (key i) i
+  pub by-key : (x : ℕ) → x < keys → getD new (mostLinked + x) 0 ≡ lastSame key x k
 
 module _ (key : ℕ → ℕ) where
   last-here : (x k : ℕ) → key k ≡ x → lastSame key x (suc k) ≡ suc k
@@ -37,8 +44,8 @@ module _ (key : ℕ → ℕ) where
   unfolding lastSame
   last-later x k e = rw (ne-eqb (key k) x e)
 
-  module _ (n : ℕ) (old : List ℕ) where
-    pub linking-none : n ≤ mostLinked → mostLinked ≤ length old → Unlinked old → Linking key n old old 0
+  module _ (keys n : ℕ) (old : List ℕ) where
+    pub linking-none : n ≤ mostLinked → mostLinked + keys ≤ length old → Unlinked old → Linking key keys n old old 0
     unfolding lastSame
     linking-none few room none =
         record {
@@ -46,11 +53,11 @@ module _ (key : ℕ → ℕ) where
           few = few;
           room = room;
           same-length = refl;
-          rows = λ (i : ℕ) (h : i < 0). absurd (omega arith);
-          keys = λ (x : ℕ) (h : mostLinked + x < length old). none x;
+          by-row = λ (i : ℕ) (h : i < 0). absurd (omega arith);
+          by-key = λ (x : ℕ) (h : x < keys). none x;
         }
 
-    module _ (now : List ℕ) (k x : ℕ) (l : Linking key n old now k) (h : k < n) (is : x ≡ key k) (in-run : mostLinked + x < length now) where
+    module _ (now : List ℕ) (k x : ℕ) (l : Linking key keys n old now k) (h : k < n) (is : x ≡ key k) (one : x < keys) where
       abbrev head : ℕ
       head = getD now (mostLinked + x) 0
 
@@ -69,29 +76,29 @@ module _ (key : ℕ → ℕ) where
           here : i ≡ k → getD (linkedTo now x k) i 0 ≡ lastSame key (key i) i
           here e =
               row-kept i (omega (arith, l .few))
-              ∙ rw (e, getD-set-same now k head 0 (omega (arith, l .few, l .room)), l .keys x in-run, is)
+              ∙ rw (e, getD-set-same now k head 0 (omega (arith, l .few, l .room)), l .by-key x one, is)
 
           earlier : (i ≡ k → ⊥) → getD (linkedTo now x k) i 0 ≡ lastSame key (key i) i
           earlier e =
-              row-kept i (omega (arith, l .few)) ∙ getD-set-other now k i head 0 e ∙ l .rows i (omega arith)
+              row-kept i (omega (arith, l .few)) ∙ getD-set-other now k i head 0 e ∙ l .by-row i (omega arith)
 
-      keys-next : (y : ℕ) → mostLinked + y < length now → getD (linkedTo now x k) (mostLinked + y) 0 ≡ lastSame key y (k + 1)
+      keys-next : (y : ℕ) → y < keys → getD (linkedTo now x k) (mostLinked + y) 0 ≡ lastSame key y (k + 1)
       keys-next y f = ⊎-elim here other (eq-or-ne y x) ∙ ap (lastSame key y) (sym (add-one k))
         where
           here : y ≡ x → getD (linkedTo now x k) (mostLinked + y) 0 ≡ lastSame key y (suc k)
           here e =
-              rw (e, getD-set-same stored (mostLinked + x) (k + 1) 0 (lt-length-set now k head in-run), last-here x k (sym is))
+              rw (e, getD-set-same stored (mostLinked + x) (k + 1) 0 (lt-length-set now k head (omega (arith, l .room))), last-here x k (sym is))
               (add-one k)
 
           other : (y ≡ x → ⊥) → getD (linkedTo now x k) (mostLinked + y) 0 ≡ lastSame key y (suc k)
           other e =
               getD-set-other stored (mostLinked + x) (mostLinked + y) (k + 1) 0 (λ (s : mostLinked + y ≡ mostLinked + x). e (omega arith))
-              ∙ key-kept y ∙ l .keys y f ∙ sym (last-later y k (λ (s : key k ≡ y). e (sym s ∙ sym is)))
+              ∙ key-kept y ∙ l .by-key y f ∙ sym (last-later y k (λ (s : key k ≡ y). e (sym s ∙ sym is)))
 
       same : length (linkedTo now x k) ≡ length now
       same = length-set stored (mostLinked + x) (k + 1) ∙ length-set now k head
 
-      pub linking-next : (next : List ℕ) → next ≡ linkedTo now x k → Linking key n old next (k + 1)
+      pub linking-next : (next : List ℕ) → next ≡ linkedTo now x k → Linking key keys n old next (k + 1)
       linking-next next e =
           rw e
           record {
@@ -99,14 +106,14 @@ module _ (key : ℕ → ℕ) where
             few = l .few;
             room = rw same (l .room);
             same-length = same ∙ l .same-length;
-            rows = rows-next;
-            keys = rw same keys-next;
+            by-row = rows-next;
+            by-key = keys-next;
           }
 
-    pub linking-over : (now : List ℕ) (k : ℕ) → Linking key n old now k → n ≤ k → Linked key n now
+    pub linking-over : (now : List ℕ) (k : ℕ) → Linking key keys n old now k → n ≤ k → Linked key keys n now
     linking-over now k l h =
         let all : k ≡ n = omega (arith, l .upto) in
-        record { few = l .few; room = l .room; rows = rw all at (l .rows); keys = rw all at (l .keys) }
+        record { few = l .few; room = l .room; by-row = rw all at (l .by-row); by-key = rw all at (l .by-key) }
 
   -- the last row with a key is before k, and has the key
   last-upto : (x k : ℕ) → lastSame key x k ≤ k
@@ -175,13 +182,24 @@ along-row key p k links l alike =
     (omega (arith, l .room))
     (l .rows k (omega arith))
 
+-- or at the key itself, for a search of all rows
+pub along-key :
+    {key : ℕ → ℕ} {keys n : ℕ} {links : List ℕ} (p : ℕ → Bool) (x : ℕ) → Linked key keys n links → x < keys →
+    ((j : ℕ) → p j ≡ true → key j ≡ x) → Along p n links (getD links (mostLinked + x) 0)
+along-key {key} {keys} {n} {links} p x l h alike =
+    along-from key p x alike n links (getD links (mostLinked + x) 0) (l .by-row) (omega (arith, l .few, l .room)) (l .by-key x h)
+
 -- of linked rows, those as far as one of them
-pub linked-to : {key : ℕ → ℕ} {n : ℕ} {links : List ℕ} (k : ℕ) → Linked key n links → k < n → LinkedTo key k links
+pub linked-to : {key : ℕ → ℕ} {keys n : ℕ} {links : List ℕ} (k : ℕ) → Linked key keys n links → k < n → LinkedTo key k links
 linked-to k l h =
     record {
       room = omega (arith, l .few, l .room);
-      rows = λ j i. l .rows j (omega arith);
+      rows = λ j i. l .by-row j (omega arith);
     }
+
+-- a row is linked to none behind it
+pub linked-upto : {key : ℕ → ℕ} {k : ℕ} {links : List ℕ} → LinkedTo key k links → getD links k 0 ≤ k
+linked-upto {key} {k} l = rw (l .rows k (omega arith)) (last-upto key (key k) k)
 
 -- one row of a search along links
 module _ (p : ℕ → Bool) (k : ℕ) (links : List ℕ) (left : ℕ) (l : Along p k links left) where
@@ -219,3 +237,40 @@ module _ (p : ℕ → Bool) (k : ℕ) (links : List ℕ) (left : ℕ) (l : Along
   along-over h =
       let none-left : left ≡ 0 = omega arith in
       sym (l .rest ∙ rw none-left)
+
+-- schedule rows searched by their places
+module _ (cells : List ℕ) (q : ScheduleRow → Bool) where
+  abbrev at : ℕ → Bool
+  at j = q (scheduleAt cells j)
+
+  pub earlier-any : (k : ℕ) → any q (earlier cells k) ≡ anyBefore at k
+  unfolding any earlier anyBefore
+  earlier-any zero = refl
+  earlier-any (suc k) = rw (earlier-any k)
+
+  rows-from : (n k : ℕ) → k ≤ n → any q (scheduleRows n cells) ≡ (anyBefore at k || any q (drop k (scheduleRows n cells)))
+  unfolding any anyBefore
+  rows-from n zero h = refl
+  rows-from n (suc k) h =
+      rows-from n k (omega arith)
+      ∙ rw (schedule-next n cells k (omega arith), add-one k) (sym (one-of (at k) (anyBefore at k) _))
+
+  pub rows-any : (n : ℕ) → any q (scheduleRows n cells) ≡ anyBefore at n
+  unfolding any
+  rows-any n = rows-from n n (omega arith) ∙ rw (rows-end n cells n (omega arith)) (or-false (anyBefore at n))
+
+-- a row that is linked to one of its unit, left - 1, has a known unit where those before it have
+pub repeats-known :
+    (us cells : List ℕ) (k : ℕ) (links : List ℕ) → LinkedTo (unitKey cells) k links → KnownBefore us cells k → 0 < getD links k 0 →
+    getD cells ((getD links k 0 - 1) * 9 + 0) 0 ≡ getD cells (k * 9 + 0) 0 → true ≡ among (getD cells (k * 9 + 0) 0) us
+repeats-known us cells k links l known h same =
+    rw (← same) (sym (known (getD links k 0 - 1) (omega (arith, linked-upto l))))
+
+-- a search of all rows for some of the unit u, whose key is x
+pub along-unit :
+    (cells : List ℕ) (n u x : ℕ) (links : List ℕ) (p : ℕ → Bool) → Linked (unitKey cells) unitKeys n links → x ≡ byUnit u → x < unitKeys →
+    ((j : ℕ) → p j ≡ true → eqb (getD cells (j * 9 + 0) 0) u ≡ true) → Along p n links (getD links (mostLinked + x) 0)
+along-unit cells n u x links p l is one of-unit = along-key p x l one alike
+  where
+    alike : (j : ℕ) → p j ≡ true → unitKey cells j ≡ x
+    alike j e = rw (is, eqb-true (getD cells (j * 9 + 0) 0) u (of-unit j e))

@@ -17,7 +17,7 @@ use Rattle.tables.specs.Rows.{ScheduleRow, scheduleRows}
 use Rattle.tables.specs.Table.{M}
 use Rattle.tables.proofs.RowViews.{scheduleAt, schedule-next}
 use Rattle.filing.specs.Answers.{earlier, oddWith, alike, bothMarket}
-use Rattle.filing.specs.Links.{LinkedTo, anyBefore, Along, unitKey, scheduleKey}
+use Rattle.filing.specs.Links.{LinkedTo, Along, unitKey, scheduleKey}
 use Rattle.filing.specs.Schedules.{sameSchedule, unlike, repeats, secondM, scheduleOdds, schedulesAtOdds}
 use Rattle.filing.proofs.LinkLaws.{along-row}
 use Rattle.filing.proofs.ScheduleLaws.{rows-end}
@@ -74,13 +74,8 @@ module _ (r e : ScheduleRow) (odd : scheduleOdds r e ≡ true) where
   odd-schedule k =
       ⊎-elim (λ s. s) (λ s. false-true (market-not r e k ∙ odds-schedules r e odd-unit s ∙ odd)) (eq-or-ne (r .schedule) (e .schedule))
 
--- row k against the rows before it, by their places and along links
+-- row k against the rows before it, along links
 module _ (cells : List ℕ) where
-  pub earlier-any : (q : ScheduleRow → Bool) (k : ℕ) → any q (earlier cells k) ≡ anyBefore (λ (j : ℕ). q (scheduleAt cells j)) k
-  unfolding any earlier anyBefore
-  earlier-any q zero = refl
-  earlier-any q (suc k) = rw (earlier-any q k)
-
   module _ (k : ℕ) (links : List ℕ) where
     pub along-units : LinkedTo (unitKey cells) k links → Along (oddWith cells k) k links (getD links k 0)
     along-units l = along-row (unitKey cells) (oddWith cells k) k links l alike

@@ -8,6 +8,7 @@ use mathlib.Core.Option.{none, some}
 use native.Mathlib.Omega.{arith}
 use native.Mathlib.Numerals.{add-one}
 use lib.Dec.{eqb, leb, ltb}
+use lib.ListN.{getD}
 use borrow.Author.Tests.{le-leb, lt-ltb, le-ltb, lt-leb, leb-true, ltb-true, eq-eqb, ne-eqb, eqb-true, not-false, not-true}
 use Rattle.base.specs.Search.{any, those, firstAtOdds, All}
 use Rattle.base.proofs.Elements.{all-mem, any-mem, none-mem, mem-none, all-those, any-agree, any-same}
@@ -16,9 +17,11 @@ use Rattle.base.proofs.Tests.{either, eq-or-ne, and-fst, and-snd, or-fst, or-sn
 use Rattle.tables.specs.Hours.{runEnd}
 use Rattle.tables.specs.Rows.{ScheduleRow, scheduleRows}
 use Rattle.tables.proofs.RowViews.{scheduleAt, schedule-next}
+use Rattle.filing.specs.Links.{mostLinked, Linked, Along, scheduleKeys, scheduleKey}
 use Rattle.filing.specs.Ranges.{Checked}
-use Rattle.filing.specs.Runs.{lacks, atHour, hasHour, goesOn, runs}
+use Rattle.filing.specs.Runs.{lacks, atHour, hasHour, goesOn, runs, stops}
 use Rattle.filing.specs.Schedules.{sameSchedule, unlike, repeats, secondM, scheduleOdds, schedulesAtOdds, own, hasHours, hasRun}
+use Rattle.filing.proofs.LinkLaws.{along-key}
 
 -- rows of one schedule share minrun
 Shared : List ScheduleRow → Type 0
@@ -257,6 +260,63 @@ module _ (r e : ScheduleRow) (k : ℕ) where
     unfolding sameSchedule atHour
     at-hours x s is = rw is (simp (eq-eqb (r .unit) (e .unit) u, eq-eqb (r .schedule) (e .schedule) s))
 
+-- those of some elements that pass a test, searched by another
+any-those : {A : Type 0} (p q : A → Bool) (xs : List A) → any q (those p xs) ≡ any (λ (x : A). p x && q x) xs
+unfolding any those
+any-those p q [] = refl
+any-those p q (x ∷ xs) = go (p x) (any-those p q xs)
+  where
+    go :
+        (t : Bool) → any q (those p xs) ≡ any (λ (y : _). p y && q y) xs →
+        any q (cond t (x ∷ those p xs) (those p xs)) ≡ ((t && q x) || any (λ (y : _). p y && q y) xs)
+    go true e = rw e
+    go false e = e
+
+-- the rows of a unit are as good as all where a row of it is asked for
+module _ (u : ℕ) (rs : List ScheduleRow) (r : ScheduleRow) (is : r .unit ≡ u) where
+  hours-own : (k : ℕ) → hasHour r k (own u rs) ≡ hasHour r k rs
+  unfolding own
+  hours-own k =
+      any-those (λ (e : ScheduleRow). eqb (e .unit) u) (atHour r k) rs
+      ∙ any-same (λ (e : ScheduleRow). eqb (e .unit) u && atHour r k e) (atHour r k) rs only
+    where
+      same : (e : ScheduleRow) → e .unit ≡ u → (eqb (e .unit) u && atHour r k e) ≡ atHour r k e
+      same e f = rw (eq-eqb (e .unit) u f)
+
+      other : (e : ScheduleRow) → (e .unit ≡ u → ⊥) → (eqb (e .unit) u && atHour r k e) ≡ atHour r k e
+      other e f = rw (ne-eqb (e .unit) u f) (at-units r e k (λ (s : r .unit ≡ e .unit). f (sym s ∙ is)))
+
+      only : (e : ScheduleRow) → (eqb (e .unit) u && atHour r k e) ≡ atHour r k e
+      only e = ⊎-elim (same e) (other e) (eq-or-ne (e .unit) u)
+
+  runs-own : (h : ℕ) → runs h (own u rs) r ≡ runs h rs r
+  unfolding runs goesOn
+  runs-own h = rw (hours-own h, hours-own (r .hour + 1))
+
+-- rule 9 of a unit by the steps of its rows
+pub lacks-by-stops : (u h : ℕ) (rs : List ScheduleRow) → Checked h rs → lacks h (own u rs) ≡ any (stops u h rs) rs
+unfolding stops
+lacks-by-stops u h rs c =
+    lacks-by-steps h (own u rs) (checked-own u c)
+    ∙ picked
+    ∙ any-same (λ (r : ScheduleRow). isOwn r && noSteps r) (stops u h rs) rs each
+  where
+    isOwn : ScheduleRow → Bool
+    isOwn r = eqb (r .unit) u
+
+    noSteps : ScheduleRow → Bool
+    noSteps r = not (runs h (own u rs) r)
+
+    picked : any noSteps (own u rs) ≡ any (λ (r : ScheduleRow). isOwn r && noSteps r) rs
+    picked = unfold own in any-those isOwn noSteps rs
+
+    each : (r : ScheduleRow) → (isOwn r && noSteps r) ≡ stops u h rs r
+    each r =
+        ⊎-elim
+        (λ (e : r .unit ≡ u). rw (runs-own u rs r e h))
+        (λ (e : r .unit ≡ u → ⊥). rw (ne-eqb (r .unit) u e))
+        (eq-or-ne (r .unit) u)
+
 -- the steps of a row's schedule, by the tests in their order; t says whether it has a row at the study hour, y
 module _ (h : ℕ) (rs : List ScheduleRow) (r : ScheduleRow) (y : ℕ) (t : Bool) (from-h : y ≡ h) (said : t ≡ hasHour r y rs) where
   is : t ≡ hasHour r h rs
@@ -288,3 +348,28 @@ module _ (h : ℕ) (rs : List ScheduleRow) (r : ScheduleRow) (y : ℕ) (t : Bool
 -- what all rows have, the row at a place has
 pub row-has : {P : ScheduleRow → Type 0} (n : ℕ) (cells : List ℕ) (k : ℕ) → All P (scheduleRows n cells) → k < n → P (scheduleAt cells k)
 row-has n cells k a h = all-head (rw (schedule-next n cells k h) at (all-drop k a))
+
+-- whether a row is the unit's and doesn't keep the steps, by the tests in their order
+module _ (u h : ℕ) (rs : List ScheduleRow) (r : ScheduleRow) where
+  pub stops-unit : stops u h rs r ≡ true → eqb (r .unit) u ≡ true
+  unfolding stops
+  stops-unit e = and-fst (eqb (r .unit) u) (not (runs h rs r)) e
+
+  pub stops-other : (r .unit ≡ u → ⊥) → false ≡ stops u h rs r
+  unfolding stops
+  stops-other e = rw (ne-eqb (r .unit) u e)
+
+  pub stops-own : (t : Bool) → r .unit ≡ u → t ≡ runs h rs r → not t ≡ stops u h rs r
+  unfolding stops
+  stops-own t e is = rw (is, eq-eqb (r .unit) u e)
+
+-- a search of all rows for some of the schedule of row k, whose key is x
+pub along-schedule :
+    (cells : List ℕ) (n k hour x : ℕ) (links : List ℕ) → Linked (scheduleKey cells) scheduleKeys n links → x ≡ scheduleKey cells k →
+    x < scheduleKeys → Along (λ (j : ℕ). atHour (scheduleAt cells k) hour (scheduleAt cells j)) n links (getD links (mostLinked + x) 0)
+along-schedule cells n k hour x links l is one = along-key (λ (j : ℕ). atHour (scheduleAt cells k) hour (scheduleAt cells j)) x l one alike
+  where
+    alike : (j : ℕ) → atHour (scheduleAt cells k) hour (scheduleAt cells j) ≡ true → scheduleKey cells j ≡ x
+    alike j e =
+        let same : sameSchedule (scheduleAt cells k) (scheduleAt cells j) ≡ true = unfold atHour in and-fst _ _ e in
+        rw (is, same-unit (scheduleAt cells k) (scheduleAt cells j) same, same-schedule (scheduleAt cells k) (scheduleAt cells j) same)

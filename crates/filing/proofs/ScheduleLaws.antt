@@ -1,6 +1,7 @@
 -- Laws of the searches over schedule rows, one for each step of a loop, over plain lists. Assumes nothing.
 use Prim.Native.Nat.{ℕ, suc, _+_, _*_, _≤_, _<_}
 use mathlib.Core.Path.{_≡_, refl, sym, _∙_}
+use mathlib.Core.Logic.{⊎-elim}
 use mathlib.Core.Bool.{Bool, true, false, not}
 use mathlib.Core.List.{List, [], _∷_}
 use mathlib.Core.Option.{Option·getD}
@@ -8,15 +9,16 @@ use native.Mathlib.Omega.{arith}
 use native.Mathlib.Numerals.{add-one}
 use lib.ListN.{length, getD, take, drop}
 use lib.Seq.{getD-take, length-take-le}
-use borrow.Author.Tests.{eq-eqb, ne-eqb}
+use borrow.Author.Tests.{eq-eqb, ne-eqb, not-false}
 use Rattle.base.specs.Rising.{among}
-use Rattle.base.specs.Search.{first, any, find}
-use Rattle.base.proofs.Finds.{any-none, any-here, any-later, find-none, find-here, find-later}
+use Rattle.base.specs.Search.{first, find}
+use Rattle.base.proofs.Finds.{find-none, find-here, find-later}
 use Rattle.base.proofs.Lists.{drop-next, drop-end}
 use Rattle.base.proofs.Searches.{first-none, first-here, first-later}
+use Rattle.base.proofs.Tests.{eq-or-ne}
 use Rattle.tables.specs.Rows.{ScheduleRow, scheduleRows}
 use Rattle.tables.proofs.RowViews.{scheduleAt, schedule-next, schedule-length}
-use Rattle.filing.specs.Answers.{lowestOf, isOf, hasRow}
+use Rattle.filing.specs.Answers.{lowestOf, KnownBefore}
 use Rattle.filing.specs.Schedules.{strange}
 use Rattle.filing.specs.declared.schedules.Lowest.the-variants.{Number, Nothing}
 
@@ -65,37 +67,6 @@ module _ (n : ℕ) (cells : List ℕ) where
   pub rows-end : (k : ℕ) → n ≤ k → drop k (scheduleRows n cells) ≡ []
   rows-end k h = drop-end k (scheduleRows n cells) (rw (schedule-length n cells) h)
 
--- whether one of n rows passes a test; k are passed, and none of them did
-pub record AnyRow (p : ScheduleRow → Bool) (n : ℕ) (cells : List ℕ) (k : ℕ) : Type 0 where
-  pub upto : k ≤ n
-  pub rest : any p (scheduleRows n cells) ≡ any p (drop k (scheduleRows n cells))
-
-module _ (p : ScheduleRow → Bool) (n : ℕ) (cells : List ℕ) where
-  pub any-row-none : AnyRow p n cells 0
-  any-row-none = record { upto = omega arith; rest = refl }
-
-  module _ (k : ℕ) (l : AnyRow p n cells k) (h : k < n) where
-    pub any-row-here : p (scheduleAt cells k) ≡ true → true ≡ any p (scheduleRows n cells)
-    any-row-here e = sym (l .rest ∙ rw (schedule-next n cells k h) (any-here p (scheduleAt cells k) _ e))
-
-    pub any-row-next : p (scheduleAt cells k) ≡ false → AnyRow p n cells (k + 1)
-    any-row-next e =
-        record {
-          upto = omega arith;
-          rest = l .rest ∙ rw (schedule-next n cells k h) (any-later p (scheduleAt cells k) _ e);
-        }
-
-  pub any-row-over : (k : ℕ) → AnyRow p n cells k → n ≤ k → false ≡ any p (scheduleRows n cells)
-  any-row-over k l h = sym (l .rest ∙ rw (rows-end n cells k h) (any-none p))
-
--- the next row, of the unit x
-module _ (u n : ℕ) (cells : List ℕ) (k x : ℕ) (l : AnyRow (isOf u) n cells k) (h : k < n) (is : x ≡ getD cells (k * 9 + 0) 0) where
-  pub has-row-here : x ≡ u → true ≡ hasRow u (scheduleRows n cells)
-  has-row-here e = any-row-here (isOf u) n cells k l h (eq-eqb (getD cells (k * 9 + 0) 0) u (sym is ∙ e))
-
-  pub has-row-next : (x ≡ u → ⊥) → AnyRow (isOf u) n cells (k + 1)
-  has-row-next e = any-row-next (isOf u) n cells k l h (ne-eqb (getD cells (k * 9 + 0) 0) u (λ o. e (is ∙ o)))
-
 -- the first of `count` numbers that passes a test; i are passed, and none of them did
 pub record Finding (p : ℕ → Bool) (numbers : List ℕ) (count i : ℕ) : Type 0 where
   pub within : count ≤ length numbers
@@ -129,6 +100,7 @@ module _ (p : ℕ → Bool) (numbers : List ℕ) (count : ℕ) where
 -- the rows that are passed are of known units
 pub record Known (n : ℕ) (cells us : List ℕ) (k : ℕ) : Type 0 where
   pub upto : k ≤ n
+  pub passed : KnownBefore us cells k
   pub rest :
       strange us (scheduleRows n cells)
       ≡ first (λ (r : ScheduleRow). not (among (r .unit) us)) (suc k) (drop k (scheduleRows n cells))
@@ -139,24 +111,32 @@ module _ (n : ℕ) (cells us : List ℕ) where
 
   pub known-none : Known n cells us 0
   unfolding strange
-  known-none = record { upto = omega arith; rest = refl }
+  known-none = record { upto = omega arith; passed = λ (j : ℕ) (h : j < 0). absurd (omega arith); rest = refl }
 
-  -- the next row's unit is u, and t says whether it is known
-  module _ (k u : ℕ) (t : Bool) (l : Known n cells us k) (h : k < n) (is : u ≡ getD cells (k * 9 + 0) 0) (said : t ≡ among u us) where
+  -- t says whether the next row's unit is known
+  module _ (k : ℕ) (t : Bool) (l : Known n cells us k) (h : k < n) (said : t ≡ among (getD cells (k * 9 + 0) 0) us) where
     pub known-here : (x : ℕ) → not t ≡ true → x ≡ k + 1 → x ≡ Option·getD (strange us (scheduleRows n cells)) 0
     known-here x e named =
-        let strange-row : stranger (scheduleAt cells k) ≡ true = rw (← is, ← said) e in
+        let strange-row : stranger (scheduleAt cells k) ≡ true = rw (← said) e in
         named
         ∙ rw (l .rest, schedule-next n cells k h, first-here stranger (suc k) (scheduleAt cells k) (drop (k + 1) (scheduleRows n cells)) strange-row)
         (add-one k)
 
     pub known-next : not t ≡ false → Known n cells us (k + 1)
     known-next e =
-        let known-row : stranger (scheduleAt cells k) ≡ false = rw (← is, ← said) e in
+        let known-row : stranger (scheduleAt cells k) ≡ false = rw (← said) e in
         record {
           upto = omega arith;
+          passed = passed-next;
           rest = l .rest ∙ rw (schedule-next n cells k h, add-one k) (first-later stranger (suc k) (scheduleAt cells k) _ known-row);
         }
+      where
+        passed-next : KnownBefore us cells (k + 1)
+        passed-next j f =
+            ⊎-elim
+            (λ (s : j ≡ k). rw s (sym said ∙ not-false t e))
+            (λ (o : j ≡ k → ⊥). l .passed j (omega arith))
+            (eq-or-ne j k)
 
   pub known-over : (k : ℕ) → Known n cells us k → n ≤ k → 0 ≡ Option·getD (strange us (scheduleRows n cells)) 0
   known-over k l h = rw (l .rest, rows-end n cells k h, first-none stranger (suc k))

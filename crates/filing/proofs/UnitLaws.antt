@@ -57,7 +57,7 @@ eqb-swapped m n =
     (eq-or-ne m n)
 
 -- who came with the row, or before it, or comes after it
-one-of : (row before after : Bool) → ((row || before) || after) ≡ (before || (row || after))
+pub one-of : (row before after : Bool) → ((row || before) || after) ≡ (before || (row || after))
 one-of true true after = refl
 one-of true false after = refl
 one-of false before after = refl

@@ -1,9 +1,12 @@
 -- What the searches over schedule rows answer and go by. Assumes nothing.
-use Prim.Native.Nat.{ℕ, zero, suc}
-use mathlib.Core.Bool.{Bool, _&&_}
+use Prim.Native.Nat.{ℕ, zero, suc, _+_, _*_, _<_}
+use mathlib.Core.Path.{_≡_}
+use mathlib.Core.Bool.{Bool, true, _&&_}
 use mathlib.Core.List.{List, [], _∷_}
 use mathlib.Core.Option.{Option, none, some}
 use lib.Dec.{eqb}
+use lib.ListN.{getD}
+use Rattle.base.specs.Rising.{among}
 use Rattle.base.specs.Search.{any}
 use Rattle.tables.specs.Rows.{ScheduleRow}
 use Rattle.tables.specs.Table.{M}
@@ -40,3 +43,7 @@ isOf u r = eqb (r .unit) u
 
 abbrev pub hasRow : ℕ → List ScheduleRow → Bool
 hasRow u rs = any (isOf u) rs
+
+-- the units of the rows before row k are among some
+abbrev pub KnownBefore : List ℕ → List ℕ → ℕ → Type 0
+KnownBefore us cells k = (j : ℕ) → j < k → among (getD cells (j * 9 + 0) 0) us ≡ true

@@ -26,12 +26,12 @@ Unlinked links = (x : ℕ) → getD links (mostLinked + x) 0 ≡ 0
 abbrev pub linkedTo : List ℕ → ℕ → ℕ → List ℕ
 linkedTo links x k = set (set links k (getD links (mostLinked + x) 0)) (mostLinked + x) (k + 1)
 
--- n rows are linked
-pub record Linked (key : ℕ → ℕ) (n : ℕ) (links : List ℕ) : Type 0 where
+-- n rows are linked, by so many keys
+pub record Linked (key : ℕ → ℕ) (keys n : ℕ) (links : List ℕ) : Type 0 where
   pub few : n ≤ mostLinked
-  pub room : mostLinked ≤ length links
-  pub rows : (k : ℕ) → k < n → getD links k 0 ≡ lastSame key (key k) k
-  pub keys : (x : ℕ) → mostLinked + x < length links → getD links (mostLinked + x) 0 ≡ lastSame key x n
+  pub room : mostLinked + keys ≤ length links
+  pub by-row : (k : ℕ) → k < n → getD links k 0 ≡ lastSame key (key k) k
+  pub by-key : (x : ℕ) → x < keys → getD links (mostLinked + x) 0 ≡ lastSame key x n
 
 -- so are the rows as far as row k
 pub record LinkedTo (key : ℕ → ℕ) (k : ℕ) (links : List ℕ) : Type 0 where
@@ -54,12 +54,18 @@ pub record Along (p : ℕ → Bool) (k : ℕ) (links : List ℕ) (left : ℕ) : 
   pub on : (j : ℕ) → left ≡ suc j → key j ≡ wanted
   pub rest : anyBefore p k ≡ anyBefore p left
 
--- keys by unit, and by unit and schedule: any number is one, and rows of one unit or schedule share it
+-- keys by unit, and by unit and schedule: any number has one, and rows of one unit or schedule share it
+abbrev pub unitKeys : ℕ
+unitKeys = 1024
+
+abbrev pub scheduleKeys : ℕ
+scheduleKeys = 2039
+
 abbrev pub byUnit : ℕ → ℕ
-byUnit unit = unit % 1024
+byUnit unit = unit % unitKeys
 
 abbrev pub bySchedule : ℕ → ℕ → ℕ
-bySchedule unit schedule = (unit % 16384 * 128 + schedule % 128) % 2039
+bySchedule unit schedule = (unit % 16384 * 128 + schedule % 128) % scheduleKeys
 
 -- the keys of schedule rows
 abbrev pub unitKey : List ℕ → ℕ → ℕ

@@ -26,3 +26,7 @@ goesOn h rs r = not (leb h (r .hour) && ltb (r .hour) (runEnd h (r .minrun))) ||
 
 unfoldable pub runs : ℕ → List ScheduleRow → ScheduleRow → Bool
 runs h rs r = hasHour r h rs && goesOn h rs r
+
+-- whether a row is of the unit u, and doesn't keep the steps
+unfoldable pub stops : ℕ → ℕ → List ScheduleRow → ScheduleRow → Bool
+stops u h rs r = eqb (r .unit) u && not (runs h rs r)

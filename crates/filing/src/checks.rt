@@ -4,7 +4,7 @@ ghost use Prim.Native.Nat.{_*_, _≤_, _<_};
 ghost use lib.ListN.{length, take};
 ghost use Rattle.tables.specs.Rows.{supplyRows, scheduleRows};
 ghost use Rattle.filing.specs.Checks.{schedulesChecked, runsChecked, SupplyChecked, InHoursOf};
-ghost use Rattle.filing.specs.Links.{Linked, unitKey, scheduleKey};
+ghost use Rattle.filing.specs.Links.{Linked, unitKeys, scheduleKeys, unitKey, scheduleKey};
 ghost use Rattle.filing.specs.Ranges.{Checked};
 ghost use Rattle.filing.specs.Supply.{mostUnits};
 use crate::links::SCHEDULE_LINKS;
@@ -90,8 +90,8 @@ fn check_linked(
     hour: u64,
 ) -> ScheduleCheck
     requires { ⌜ n * 9 ≤ length (now cells) ⌝ }
-    requires { ⌜ Linked (unitKey (now cells)) n (now «by_unit») ⌝ }
-    requires { ⌜ Linked (scheduleKey (now cells)) n (now «by_schedule») ⌝ }
+    requires { ⌜ Linked (unitKey (now cells)) unitKeys n (now «by_unit») ⌝ }
+    requires { ⌜ Linked (scheduleKey (now cells)) scheduleKeys n (now «by_schedule») ⌝ }
     requires { ⌜ count ≤ length (now units) ⌝ }
     requires { ⌜ InHoursOf hour (scheduleRows n (now cells)) ⌝ }
     ensures { λ r. ⌜ r ≡ schedulesChecked hour (take count (now (units .entry))) (scheduleRows n (now (cells .entry))) ⌝ }
@@ -100,25 +100,34 @@ fn check_linked(
     if odd != 0 {
         return ScheduleCheck::AtOdds(odd);
     }
-    let stranger = strange(cells, n, units, count);
+    let stranger = strange(cells, n, by_unit, units, count);
     if stranger != 0 {
         return ScheduleCheck::Strange(stranger);
     }
-    let bare = unscheduled(cells, n, units, count);
+    let bare = unscheduled(cells, n, by_unit, units, count);
     match bare {
         Lowest::Number(unit) => ScheduleCheck::Unscheduled(unit),
-        Lowest::Nothing => check_runs(cells, n, units, count, hour),
+        Lowest::Nothing => check_runs(cells, n, by_unit, by_schedule, units, count, hour),
     }
 }
 
-fn check_runs(cells: &[u64], n: usize, units: &[u64], count: usize, hour: u64) -> ScheduleCheck
-    requires { ⌜ n ≤ 1024 ⌝ }
+fn check_runs(
+    cells: &[u64],
+    n: usize,
+    by_unit: &[usize],
+    by_schedule: &[usize],
+    units: &[u64],
+    count: usize,
+    hour: u64,
+) -> ScheduleCheck
     requires { ⌜ n * 9 ≤ length (now cells) ⌝ }
+    requires { ⌜ Linked (unitKey (now cells)) unitKeys n (now «by_unit») ⌝ }
+    requires { ⌜ Linked (scheduleKey (now cells)) scheduleKeys n (now «by_schedule») ⌝ }
     requires { ⌜ count ≤ length (now units) ⌝ }
     requires { ⌜ Checked hour (scheduleRows n (now cells)) ⌝ }
     ensures { λ r. ⌜ r ≡ runsChecked hour (take count (now (units .entry))) (scheduleRows n (now (cells .entry))) ⌝ }
 {
-    let short = lacking(cells, n, units, count, hour);
+    let short = lacking(cells, n, by_unit, by_schedule, units, count, hour);
     match short {
         Lowest::Number(unit) => ScheduleCheck::Lacking(unit),
         Lowest::Nothing => ScheduleCheck::Passed,

@@ -6,7 +6,7 @@
 ghost use mathlib.Core.Path.{_≡_};
 ghost use Prim.Native.Nat.{_+_, _*_, _≤_, _<_};
 ghost use lib.ListN.{length};
-ghost use Rattle.filing.specs.Links.{mostLinked, Unlinked, linkedTo, Linked, byUnit, bySchedule, unitKey, scheduleKey};
+ghost use Rattle.filing.specs.Links.{mostLinked, Unlinked, linkedTo, Linked, unitKeys, scheduleKeys, byUnit, bySchedule, unitKey, scheduleKey};
 use crate::schedules::SCHEDULE;
 use crate::schedules::UNIT;
 use crate::schedules::cell;
@@ -32,9 +32,9 @@ const SCHEDULES: u64 = 128;
 pub fn link_units(cells: &[u64], n: usize, links: &mut [usize])
     requires { ⌜ n ≤ mostLinked ⌝ }
     requires { ⌜ n * 9 ≤ length (now cells) ⌝ }
-    requires { ⌜ length (now links) ≡ 2048 ⌝ }
+    requires { ⌜ mostLinked + unitKeys ≤ length (now links) ⌝ }
     requires { ⌜ Unlinked (now links) ⌝ }
-    ensures { λ _. ⌜ Linked (unitKey (now (cells .entry))) n (now (links .exit)) ⌝ }
+    ensures { λ _. ⌜ Linked (unitKey (now (cells .entry))) unitKeys n (now (links .exit)) ⌝ }
 {
     let mut k = 0;
     while k < n {
@@ -48,9 +48,9 @@ pub fn link_units(cells: &[u64], n: usize, links: &mut [usize])
 pub fn link_schedules(cells: &[u64], n: usize, links: &mut [usize])
     requires { ⌜ n ≤ mostLinked ⌝ }
     requires { ⌜ n * 9 ≤ length (now cells) ⌝ }
-    requires { ⌜ length (now links) ≡ 3063 ⌝ }
+    requires { ⌜ mostLinked + scheduleKeys ≤ length (now links) ⌝ }
     requires { ⌜ Unlinked (now links) ⌝ }
-    ensures { λ _. ⌜ Linked (scheduleKey (now (cells .entry))) n (now (links .exit)) ⌝ }
+    ensures { λ _. ⌜ Linked (scheduleKey (now (cells .entry))) scheduleKeys n (now (links .exit)) ⌝ }
 {
     let mut k = 0;
     while k < n {
@@ -71,13 +71,13 @@ fn link(links: &mut [usize], key: usize, k: usize)
 }
 
 pub fn unit_key(unit: u64) -> usize
-    ensures { λ r. ⌜ (r ≡ byUnit unit) × (r < 1024) ⌝ }
+    ensures { λ r. ⌜ (r ≡ byUnit unit) × (r < unitKeys) ⌝ }
 {
     (unit % UNIT_KEYS) as usize
 }
 
 pub fn schedule_key(unit: u64, schedule: u64) -> usize
-    ensures { λ r. ⌜ (r ≡ bySchedule unit schedule) × (r < 2039) ⌝ }
+    ensures { λ r. ⌜ (r ≡ bySchedule unit schedule) × (r < scheduleKeys) ⌝ }
 {
     ((unit % UNITS * SCHEDULES + schedule % SCHEDULES) % SCHEDULE_KEYS) as usize
 }

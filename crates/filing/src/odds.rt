@@ -10,7 +10,7 @@ ghost use Rattle.base.specs.Search.{any};
 ghost use Rattle.tables.specs.Rows.{scheduleRows};
 ghost use Rattle.tables.proofs.RowViews.{scheduleAt};
 ghost use Rattle.filing.specs.Answers.{alike, bothMarket, earlier, oddWith};
-ghost use Rattle.filing.specs.Links.{Linked, LinkedTo, Along, unitKey, scheduleKey};
+ghost use Rattle.filing.specs.Links.{Linked, LinkedTo, Along, unitKeys, scheduleKeys, unitKey, scheduleKey};
 ghost use Rattle.filing.specs.Schedules.{scheduleOdds, schedulesAtOdds};
 use crate::schedules::HOUR;
 use crate::schedules::KIND;
@@ -26,8 +26,8 @@ const MARKET: u64 = 77;
 // The first row at odds with an earlier one, counted from 1; 0 where there is none.
 pub fn schedules_at_odds(cells: &[u64], n: usize, by_unit: &[usize], by_schedule: &[usize]) -> usize
     requires { ⌜ n * 9 ≤ length (now cells) ⌝ }
-    requires { ⌜ Linked (unitKey (now cells)) n (now «by_unit») ⌝ }
-    requires { ⌜ Linked (scheduleKey (now cells)) n (now «by_schedule») ⌝ }
+    requires { ⌜ Linked (unitKey (now cells)) unitKeys n (now «by_unit») ⌝ }
+    requires { ⌜ Linked (scheduleKey (now cells)) scheduleKeys n (now «by_schedule») ⌝ }
     ensures { λ r. ⌜ r ≡ Option·getD (schedulesAtOdds (scheduleRows n (now (cells .entry)))) 0 ⌝ }
 {
     let mut k = 0;

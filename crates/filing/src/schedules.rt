@@ -6,8 +6,11 @@ ghost use Prim.Native.Nat.{_+_, _*_, _≤_, _<_};
 ghost use lib.ListN.{length, getD, take};
 ghost use Rattle.base.specs.Rising.{among};
 ghost use Rattle.tables.specs.Rows.{scheduleRows};
-ghost use Rattle.filing.specs.Answers.{lowestOf, hasRow};
+ghost use Rattle.filing.specs.Answers.{lowestOf, hasRow, KnownBefore};
+ghost use Rattle.filing.specs.Links.{Linked, LinkedTo, unitKeys, unitKey};
 ghost use Rattle.filing.specs.Schedules.{strange as Schedules·strange, unscheduled as Schedules·unscheduled};
+use crate::links::ROWS;
+use crate::links::unit_key;
 
 // The cells of a row, and where in it the columns stand.
 pub const WIDTH: usize = 9;
@@ -32,14 +35,15 @@ pub enum Lowest {
 
 // 7: the first row of a unit that is not among the first `count` units, counted from 1; 0 where
 // there is none.
-pub fn strange(cells: &[u64], n: usize, units: &[u64], count: usize) -> usize
+pub fn strange(cells: &[u64], n: usize, by_unit: &[usize], units: &[u64], count: usize) -> usize
     requires { ⌜ n * 9 ≤ length (now cells) ⌝ }
+    requires { ⌜ Linked (unitKey (now cells)) unitKeys n (now «by_unit») ⌝ }
     requires { ⌜ count ≤ length (now units) ⌝ }
     ensures { λ r. ⌜ r ≡ Option·getD (Schedules·strange (take count (now (units .entry))) (scheduleRows n (now (cells .entry)))) 0 ⌝ }
 {
     let mut k = 0;
     while k < n {
-        if !is_listed(cell(cells, k, UNIT), units, count) {
+        if !is_known(cells, k, by_unit, units, count) {
             return k + 1;
         }
         k += 1;
@@ -47,16 +51,42 @@ pub fn strange(cells: &[u64], n: usize, units: &[u64], count: usize) -> usize
     0
 }
 
+// Whether the unit of row `k` is among the first `count` units, where those of the rows before it
+// are: so it is if the row is linked to one of its unit.
+fn is_known(cells: &[u64], k: usize, by_unit: &[usize], units: &[u64], count: usize) -> bool
+    requires { ⌜ k * 9 + 9 ≤ length (now cells) ⌝ }
+    requires { ⌜ LinkedTo (unitKey (now cells)) k (now «by_unit») ⌝ }
+    requires { ⌜ count ≤ length (now units) ⌝ }
+    requires { ⌜ KnownBefore (take count (now units)) (now cells) k ⌝ }
+    ensures { λ r. ⌜ r ≡ among (getD (now (cells .entry)) (k * 9 + 0) 0) (take count (now (units .entry))) ⌝ }
+{
+    let unit = cell(cells, k, UNIT);
+    let left = by_unit[k];
+    if 0 < left {
+        if cell(cells, left - 1, UNIT) == unit {
+            return true;
+        }
+    }
+    is_listed(unit, units, count)
+}
+
 // 8: the lowest of the first `count` units that has no row, where the units rise.
-pub fn unscheduled(cells: &[u64], n: usize, units: &[u64], count: usize) -> Lowest
+pub fn unscheduled(
+    cells: &[u64],
+    n: usize,
+    by_unit: &[usize],
+    units: &[u64],
+    count: usize,
+) -> Lowest
     requires { ⌜ n * 9 ≤ length (now cells) ⌝ }
+    requires { ⌜ Linked (unitKey (now cells)) unitKeys n (now «by_unit») ⌝ }
     requires { ⌜ count ≤ length (now units) ⌝ }
     ensures { λ r. ⌜ r ≡ lowestOf (Schedules·unscheduled (take count (now (units .entry))) (scheduleRows n (now (cells .entry)))) ⌝ }
 {
     let mut i = 0;
     while i < count {
         let unit = units[i];
-        if !has_row(cells, n, unit) {
+        if !has_row(cells, n, by_unit, unit) {
             return Lowest::Number(unit);
         }
         i += 1;
@@ -64,16 +94,18 @@ pub fn unscheduled(cells: &[u64], n: usize, units: &[u64], count: usize) -> Lowe
     Lowest::Nothing
 }
 
-fn has_row(cells: &[u64], n: usize, unit: u64) -> bool
+fn has_row(cells: &[u64], n: usize, by_unit: &[usize], unit: u64) -> bool
     requires { ⌜ n * 9 ≤ length (now cells) ⌝ }
+    requires { ⌜ Linked (unitKey (now cells)) unitKeys n (now «by_unit») ⌝ }
     ensures { λ r. ⌜ r ≡ hasRow unit (scheduleRows n (now (cells .entry))) ⌝ }
 {
-    let mut k = 0;
-    while k < n {
+    let mut left = by_unit[ROWS + unit_key(unit)];
+    while 0 < left {
+        let k = left - 1;
         if cell(cells, k, UNIT) == unit {
             return true;
         }
-        k += 1;
+        left = by_unit[k];
     }
     false
 }

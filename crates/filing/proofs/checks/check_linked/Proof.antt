@@ -27,7 +27,7 @@ enum-told : tie.Need-enum-told
 enum-told c = search needs
 
 check-runs-requires : tie.Need-check-runs-requires
-check-runs-requires c κs = let pre = c .before .before .before .before .before .before .before .before .before .before .before .pre in (pre .1 .0 .few, (pre .0, (pre .1 .1 .1 .0, check-runs-asked _ [] _ _ (c .before .before .before .before .before .before .schedules-at-odds .ensures) (c .before .before .before .before .before .if1 .left) (pre .1 .1 .1 .1))))
+check-runs-requires c κs = let pre = c .before .before .before .before .before .before .before .before .before .before .before .pre in (pre .0, (pre .1 .0, (pre .1 .1 .0, (pre .1 .1 .1 .0, check-runs-asked _ [] _ _ (c .before .before .before .before .before .before .schedules-at-odds .ensures) (c .before .before .before .before .before .if1 .left) (pre .1 .1 .1 .1)))))
 
 returns-3 : tie.Need-returns-3
 returns-3 c = check-unscheduled _ _ _ _ (c .before .before .before .before .before .before .before .schedules-at-odds .ensures) (c .before .before .before .before .before .before .if1 .left) _ (c .before .before .before .before .before .strange .ensures) (c .before .before .before .before .if2 .left) (c .before .before .before .unscheduled .ensures) (c .before .bare .given .1)

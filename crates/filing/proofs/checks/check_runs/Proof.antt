@@ -21,4 +21,10 @@ returns-2 c = runs-whole _ _ _ (c .before .before .lacking .ensures) (c .enum-to
 
 pub check-runs-spec : {M : Type 1} → statement M
 check-runs-spec =
-    tie.close (tie.spec lacking-requires enum-known-short enum-told returns returns-2)
+    tie.close
+    (tie.spec
+    lacking-requires
+    enum-known-short
+    enum-told
+    returns
+    returns-2)

@@ -2,8 +2,7 @@
 use mathlib.Core.Path.{sym, _∙_}
 use Rattle.filing.specs.Answers.{oddWith}
 use Rattle.filing.specs.Links.{Along}
-use Rattle.filing.proofs.LinkLaws.{along-here, along-less, along-next, along-over}
-use Rattle.filing.proofs.OddsLaws.{earlier-any}
+use Rattle.filing.proofs.LinkLaws.{along-here, along-less, along-next, along-over, earlier-any}
 use native.Mathlib.Omega.{arith}
 use Rattle.filing.proofs.odds.at_odds_along.Statement.{statement}
 use Rattle.filing.proofs.odds.at_odds_along.Tie as tie

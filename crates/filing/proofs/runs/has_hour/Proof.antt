@@ -1,39 +1,66 @@
--- Whether a schedule has a row for an hour. Assumes nothing.
-use Prim.Native.Nat.{_-_}
+-- Whether a schedule has a row for an hour, along the rows of its key. Assumes nothing.
+use Prim.Native.Nat.{ℕ}
 use mathlib.Core.Path.{sym, _∙_}
-use native.Mathlib.Omega.{arith}
 use Rattle.tables.proofs.RowViews.{scheduleAt}
+use Rattle.filing.specs.Links.{Along}
 use Rattle.filing.specs.Runs.{atHour}
-use Rattle.filing.proofs.ScheduleLaws.{AnyRow, any-row-none, any-row-here, any-row-next, any-row-over}
+use Rattle.filing.proofs.LinkLaws.{along-here, along-less, along-next, along-over, rows-any}
+use Rattle.filing.proofs.RunLaws.{along-schedule}
+use native.Mathlib.Omega.{arith}
+use borrow.Author.Needs.{needs}
 use Rattle.filing.proofs.runs.has_hour.Statement.{statement}
 use Rattle.filing.proofs.runs.has_hour.Tie as tie
 
 abbrev Inv-loop : tie.InvT-loop
-Inv-loop cells n k hour j₀ j = AnyRow (atHour (scheduleAt cells k) hour) n cells j
+Inv-loop cells n by-schedule k hour key left₀ left = Along (λ (j : ℕ). atHour (scheduleAt cells k) hour (scheduleAt cells j)) n by-schedule left
 
 abbrev μ-loop : tie.MeasureT-loop
-μ-loop cells n k hour j₀ j = n - j
+μ-loop cells n by-schedule k hour key left₀ left = left
+
+cell-requires : tie.Need-cell-requires Inv-loop μ-loop
+cell-requires c κs = omega arith
+
+cell-requires-2 : tie.Need-cell-requires-2 Inv-loop μ-loop
+cell-requires-2 c κs = omega arith
+
+schedule-key-requires : tie.Need-schedule-key-requires Inv-loop μ-loop
+schedule-key-requires c κs = search needs
+
+add-left : tie.Need-add-left Inv-loop μ-loop
+add-left c = omega arith
+
+mul-left : tie.Need-mul-left Inv-loop μ-loop
+mul-left c = omega arith
+
+shared-slice-read-left : tie.Need-shared-slice-read-left Inv-loop μ-loop
+shared-slice-read-left c = omega (arith, c .before .before .before .before .before .before .pre .1 .0 .room)
 
 loop-holds : tie.Need-loop-holds Inv-loop μ-loop
-loop-holds c = any-row-none _ _ _
+loop-holds c = let key = c .before .schedule-key .ensures in let a = c .before .before .before .before .before .before .args in along-schedule (a .cells .now) _ (a .k) _ _ _ (c .before .before .before .before .before .before .pre .1 .0) (key .0 ∙ rw (c .before .before .cell2 .ensures, c .before .before .before .cell .ensures)) (key .1)
+
+sub-j : tie.Need-sub-j Inv-loop μ-loop
+sub-j c = omega arith
 
 is-at-requires : tie.Need-is-at-requires Inv-loop μ-loop
 is-at-requires c κs = omega arith
 
 returns : tie.Need-returns Inv-loop μ-loop
-returns c = any-row-here _ _ _ _ (c .before .before .before .loop .inv) (omega arith) (sym (c .before .is-at .ensures) ∙ c .if1 .taken)
+returns c = along-here _ _ _ _ (c .before .before .before .loop .inv) (omega arith) (sym (c .before .is-at .ensures) ∙ c .if1 .taken) ∙ sym (rows-any _ _ _)
 
-add-j : tie.Need-add-j Inv-loop μ-loop
-add-j c = omega arith
+mul-left-2 : tie.Need-mul-left-2 Inv-loop μ-loop
+mul-left-2 c = omega arith
+
+shared-slice-read-left-2 : tie.Need-shared-slice-read-left-2 Inv-loop μ-loop
+shared-slice-read-left-2 c = omega (arith, c .before .before .before .before .loop .inv .room)
 
 loop-less : tie.Need-loop-less Inv-loop μ-loop
-loop-less c = omega arith
+loop-less c = along-less _ _ _ _ (c .before .before .before .before .loop .inv) (omega arith)
 
 loop-again : tie.Need-loop-again Inv-loop μ-loop
-loop-again c = any-row-next _ _ _ _ (c .before .before .before .loop .inv) (omega arith) (sym (c .before .is-at .ensures) ∙ c .if1 .left)
+loop-again c = along-next _ _ _ _ (c .before .before .before .before .loop .inv) (omega arith) (sym (c .before .before .is-at .ensures) ∙ c .before .if1 .left)
 
 returns-2 : tie.Need-returns-2 Inv-loop μ-loop
-returns-2 c = any-row-over _ _ _ _ (c .before .loop .inv) (omega arith)
+returns-2 c = along-over _ _ _ _ (c .before .loop .inv) (omega arith) ∙ sym (rows-any _ _ _)
 
 pub has-hour-spec : {M : Type 1} → statement M
 has-hour-spec =
@@ -41,10 +68,18 @@ has-hour-spec =
     (tie.spec
     Inv-loop
     μ-loop
+    cell-requires
+    cell-requires-2
+    schedule-key-requires
+    add-left
+    mul-left
+    shared-slice-read-left
     loop-holds
+    sub-j
     is-at-requires
     returns
-    add-j
+    mul-left-2
+    shared-slice-read-left-2
     loop-less
     loop-again
     returns-2)

@@ -1,7 +1,7 @@
 -- Whether a schedule starts at the study hour and goes on behind a row. Assumes nothing.
-use native.Mathlib.Omega.{arith}
 use Rattle.tables.specs.Hours.{runEnd}
 use Rattle.filing.proofs.RunLaws.{runs-not, runs-before, runs-over, runs-inside}
+use native.Mathlib.Omega.{arith}
 use borrow.Author.Needs.{needs}
 use Rattle.filing.proofs.runs.runs.Statement.{statement}
 use Rattle.filing.proofs.runs.runs.Tie as tie

@@ -4,6 +4,7 @@ ghost use mathlib.Core.List.{_++_};
 ghost use Prim.Native.Nat.{_*_, _≤_};
 ghost use lib.ListN.{length, take, drop};
 ghost use Rattle.tables.specs.Rows.{constraintRow, supplyRows, scheduleRows, letterOf};
+ghost use Rattle.filing.specs.Links.{Linked, unitKeys, unitKey};
 ghost use Rattle.filing.specs.Schedules.{own as Schedules·own};
 ghost use Rattle.commitment.specs.Ranges.{UnitRows};
 ghost use Rattle.judge.specs.Answer.{answerWidth};
@@ -17,7 +18,9 @@ use crate::standing::stand;
 use crate::testing::UnitTest;
 use crate::testing::test_unit;
 use commitment::Choice;
+use filing::UNIT_LINKS;
 use filing::gather;
+use filing::link_units;
 use tables::Kind;
 
 // The most parties whose amounts are tested.
@@ -59,7 +62,9 @@ pub fn decide(
 {
     let mut parties = [0u64; PARTIES];
     let mut amounts = [0u64; PARTIES];
+    let mut by_unit = [0usize; UNIT_LINKS];
     let standing = stand(constraint, supply, n, &mut parties, &mut amounts);
+    link_units(schedules, m, &mut by_unit);
     decide_units(
         constraint,
         supply,
@@ -69,6 +74,7 @@ pub fn decide(
         &amounts,
         schedules,
         m,
+        &by_unit,
         units,
         kinds,
         k,
@@ -76,7 +82,8 @@ pub fn decide(
     )
 }
 
-// Decides the first `k` units in a market that stands as found.
+// Decides the first `k` units in a market that stands as found, by schedule rows that are linked by
+// unit.
 fn decide_units(
     constraint: &[u64],
     supply: &[u64],
@@ -86,6 +93,7 @@ fn decide_units(
     amounts: &[u64],
     schedules: &[u64],
     m: usize,
+    by_unit: &[usize],
     units: &[u64],
     kinds: &[u64],
     k: usize,
@@ -94,6 +102,7 @@ fn decide_units(
     requires { ⌜ MarketCells (now constraint) n (now supply) ⌝ }
     requires { ⌜ Stands (constraintRow (now constraint)) (supplyRows n (now supply)) (now parties) (now amounts) standing ⌝ }
     requires { ⌜ UnitRows m (now schedules) ⌝ }
+    requires { ⌜ Linked (unitKey (now schedules)) unitKeys m (now «by_unit») ⌝ }
     requires { ⌜ UnitCells k (supplyRows n (now supply)) (now units) (now kinds) (now rows) ⌝ }
     ensures { λ r. ⌜ Decides (constraintRow (now (constraint .entry))) (supplyRows n (now (supply .entry))) (scheduleRows m (now (schedules .entry))) (take k (now (units .entry))) (take k (now (kinds .entry))) (now (rows .entry)) (now (rows .exit)) r ⌝ }
 {
@@ -106,6 +115,7 @@ fn decide_units(
             hour,
             schedules,
             m,
+            by_unit,
             units[i],
             kinds[i],
             test,
@@ -125,6 +135,7 @@ fn decide_unit(
     hour: u64,
     schedules: &[u64],
     m: usize,
+    by_unit: &[usize],
     unit: u64,
     kind: u64,
     test: UnitTest,
@@ -132,11 +143,12 @@ fn decide_unit(
     row: &mut [u64],
 ) -> bool
     requires { ⌜ UnitRows m (now schedules) ⌝ }
+    requires { ⌜ Linked (unitKey (now schedules)) unitKeys m (now «by_unit») ⌝ }
     requires { ⌜ m * 9 ≤ length (now own) ⌝ }
     requires { ⌜ answerWidth ≤ length (now row) ⌝ }
     ensures { λ r. ⌜ UnitDecided hour (Schedules·own unit (scheduleRows m (now (schedules .entry)))) unit kind test (now (row .entry)) (now (row .exit)) r ⌝ }
 {
-    let count = gather(schedules, m, unit, own);
+    let count = gather(schedules, m, by_unit, unit, own);
     if lacks_cost(own, count, hour, kind) {
         return false;
     }

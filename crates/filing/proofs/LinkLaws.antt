@@ -16,7 +16,7 @@ use Rattle.base.proofs.Tests.{either, eq-or-ne}
 use Rattle.tables.specs.Rows.{ScheduleRow, scheduleRows}
 use Rattle.tables.proofs.RowViews.{scheduleAt, schedule-next}
 use Rattle.filing.specs.Answers.{earlier, KnownBefore}
-use Rattle.filing.specs.Links.{lastSame, mostLinked, Unlinked, linkedTo, Linked, LinkedTo, anyBefore, Along, unitKeys, byUnit, unitKey}
+use Rattle.filing.specs.Links.{lastSame, mostLinked, Unlinked, linkedTo, Linked, LinkedTo, anyBefore, Leads, Along, unitKeys, byUnit, unitKey}
 use Rattle.filing.proofs.ScheduleLaws.{rows-end}
 use Rattle.filing.proofs.UnitLaws.{one-of}
 
@@ -36,11 +36,11 @@ pub record Linking (key : ℕ → ℕ) (keys n : ℕ) (old new : List ℕ) (k : 
   pub by-key : (x : ℕ) → x < keys → getD new (mostLinked + x) 0 ≡ lastSame key x k
 
 module _ (key : ℕ → ℕ) where
-  last-here : (x k : ℕ) → key k ≡ x → lastSame key x (suc k) ≡ suc k
+  pub last-here : (x k : ℕ) → key k ≡ x → lastSame key x (suc k) ≡ suc k
   unfolding lastSame
   last-here x k e = rw (eq-eqb (key k) x e)
 
-  last-later : (x k : ℕ) → (key k ≡ x → ⊥) → lastSame key x (suc k) ≡ lastSame key x k
+  pub last-later : (x k : ℕ) → (key k ≡ x → ⊥) → lastSame key x (suc k) ≡ lastSame key x k
   unfolding lastSame
   last-later x k e = rw (ne-eqb (key k) x e)
 
@@ -116,7 +116,7 @@ module _ (key : ℕ → ℕ) where
         record { few = l .few; room = l .room; by-row = rw all at (l .by-row); by-key = rw all at (l .by-key) }
 
   -- the last row with a key is before k, and has the key
-  last-upto : (x k : ℕ) → lastSame key x k ≤ k
+  pub last-upto : (x k : ℕ) → lastSame key x k ≤ k
   unfolding lastSame
   last-upto x zero = omega arith
   last-upto x (suc k) = go (eqb (key k) x) (last-upto x k)
@@ -138,6 +138,31 @@ module _ (key : ℕ → ℕ) where
           rw same (eqb-true (key k) x q)
       go false q below e = below e
 
+  leads-from :
+      (x k : ℕ) (links : List ℕ) (left : ℕ) → ((j : ℕ) → j < k → getD links j 0 ≡ lastSame key (key j) j) → k ≤ length links →
+      left ≡ lastSame key x k → Leads key x links left
+  leads-from x k links left linked room is =
+      let upto : left ≤ k = rw is (last-upto x k) in
+      record {
+        room = omega arith;
+        linked = λ (j : ℕ) (h : j < left). linked j (omega arith);
+        on = λ (j : ℕ) (e : left ≡ suc j). last-has x k j (sym is ∙ e);
+      }
+
+  module _ (x : ℕ) (links : List ℕ) (left : ℕ) (l : Leads key x links left) (h : 0 < left) where
+    pub leads-last : getD links (left - 1) 0 ≡ lastSame key x (left - 1)
+    leads-last = l .linked (left - 1) (omega arith) ∙ rw (l .on (left - 1) (omega arith))
+
+    pub leads-less : getD links (left - 1) 0 < left
+    leads-less = omega (arith, rw (← leads-last) at (last-upto x (left - 1)))
+
+    pub leads-next : Leads key x links (getD links (left - 1) 0)
+    leads-next =
+        leads-from x (left - 1) links (getD links (left - 1) 0)
+        (λ (j : ℕ) (i : j < left - 1). l .linked j (omega arith))
+        (omega (arith, l .room))
+        leads-last
+
   -- behind it nothing passes a test that only rows with the key pass
   module _ (p : ℕ → Bool) (x : ℕ) (alike : (j : ℕ) → p j ≡ true → key j ≡ x) where
     other-fails : (k : ℕ) → (key k ≡ x → ⊥) → p k ≡ false
@@ -157,7 +182,7 @@ module _ (key : ℕ → ℕ) where
         later below e = rw (last-later x k e, other-fails k e) below
 
     -- so a search begins at the last row with the key
-    pub along-from :
+    along-from :
         (k : ℕ) (links : List ℕ) (left : ℕ) → ((j : ℕ) → j < k → getD links j 0 ≡ lastSame key (key j) j) → k ≤ length links →
         left ≡ lastSame key x k → Along p k links left
     along-from k links left linked room is =
@@ -165,10 +190,8 @@ module _ (key : ℕ → ℕ) where
           key = key;
           wanted = x;
           alike = alike;
-          linked = linked;
-          room = room;
+          leads = leads-from x k links left linked room is;
           upto = rw is (last-upto x k);
-          on = λ (j : ℕ) (e : left ≡ suc j). last-has x k j (sym is ∙ e);
           rest = last-any k ∙ rw (← is);
         }
 
@@ -188,6 +211,14 @@ pub along-key :
     ((j : ℕ) → p j ≡ true → key j ≡ x) → Along p n links (getD links (mostLinked + x) 0)
 along-key {key} {keys} {n} {links} p x l h alike =
     along-from key p x alike n links (getD links (mostLinked + x) 0) (l .by-row) (omega (arith, l .few, l .room)) (l .by-key x h)
+
+pub leads-key :
+    {key : ℕ → ℕ} {keys n : ℕ} {links : List ℕ} (x : ℕ) → Linked key keys n links → x < keys → Leads key x links (getD links (mostLinked + x) 0)
+leads-key {key} {keys} {n} {links} x l h =
+    leads-from key x n links (getD links (mostLinked + x) 0) (l .by-row) (omega (arith, l .few, l .room)) (l .by-key x h)
+
+pub key-upto : {key : ℕ → ℕ} {keys n : ℕ} {links : List ℕ} (x : ℕ) → Linked key keys n links → x < keys → getD links (mostLinked + x) 0 ≤ n
+key-upto {key} {keys} {n} x l h = rw (l .by-key x h) (last-upto key x n)
 
 -- of linked rows, those as far as one of them
 pub linked-to : {key : ℕ → ℕ} {keys n : ℕ} {links : List ℕ} (k : ℕ) → Linked key keys n links → k < n → LinkedTo key k links
@@ -213,11 +244,8 @@ module _ (p : ℕ → Bool) (k : ℕ) (links : List ℕ) (left : ℕ) (l : Along
     pub along-here : p (left - 1) ≡ true → true ≡ anyBefore p k
     along-here e = sym (l .rest ∙ last-left ∙ rw e)
 
-    next-last : getD links (left - 1) 0 ≡ lastSame (l .key) (l .wanted) (left - 1)
-    next-last = l .linked (left - 1) (omega (arith, l .upto)) ∙ rw (l .on (left - 1) (omega arith))
-
     pub along-less : getD links (left - 1) 0 < left
-    along-less = omega (arith, rw (← next-last) at (last-upto (l .key) (l .wanted) (left - 1)))
+    along-less = leads-less (l .key) (l .wanted) links left (l .leads) h
 
     pub along-next : p (left - 1) ≡ false → Along p k links (getD links (left - 1) 0)
     along-next e =
@@ -225,11 +253,11 @@ module _ (p : ℕ → Bool) (k : ℕ) (links : List ℕ) (left : ℕ) (l : Along
           key = l .key;
           wanted = l .wanted;
           alike = l .alike;
-          linked = l .linked;
-          room = l .room;
+          leads = leads-next (l .key) (l .wanted) links left (l .leads) h;
           upto = omega (arith, along-less, l .upto);
-          on = λ (j : ℕ) (f : getD links (left - 1) 0 ≡ suc j). last-has (l .key) (l .wanted) (left - 1) j (sym next-last ∙ f);
-          rest = l .rest ∙ last-left ∙ rw e (last-any (l .key) p (l .wanted) (l .alike) (left - 1) ∙ rw (← next-last));
+          rest =
+              l .rest ∙ last-left
+              ∙ rw e (last-any (l .key) p (l .wanted) (l .alike) (left - 1) ∙ rw (← leads-last (l .key) (l .wanted) links left (l .leads) h));
         }
 
   pub along-over : left ≤ 0 → false ≡ anyBefore p k

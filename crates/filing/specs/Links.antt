@@ -43,15 +43,19 @@ unfoldable pub anyBefore : (ℕ → Bool) → ℕ → Bool
 anyBefore p zero = false
 anyBefore p (suc k) = p k || anyBefore p k
 
--- a search of k rows along links, of which `left` are left: what passes the test has one key, and so has the last that is left
+-- links lead from the last of `left` rows, which has the key x, to each before it that has
+pub record Leads (key : ℕ → ℕ) (x : ℕ) (links : List ℕ) (left : ℕ) : Type 0 where
+  pub room : left ≤ length links
+  pub linked : (j : ℕ) → j < left → getD links j 0 ≡ lastSame key (key j) j
+  pub on : (j : ℕ) → left ≡ suc j → key j ≡ x
+
+-- a search of k rows along links, of which `left` are left: what passes the test has one key
 pub record Along (p : ℕ → Bool) (k : ℕ) (links : List ℕ) (left : ℕ) : Type 0 where
   pub key : ℕ → ℕ
   pub wanted : ℕ
   pub alike : (j : ℕ) → p j ≡ true → key j ≡ wanted
-  pub linked : (j : ℕ) → j < k → getD links j 0 ≡ lastSame key (key j) j
-  pub room : k ≤ length links
+  pub leads : Leads key wanted links left
   pub upto : left ≤ k
-  pub on : (j : ℕ) → left ≡ suc j → key j ≡ wanted
   pub rest : anyBefore p k ≡ anyBefore p left
 
 -- keys by unit, and by unit and schedule: any number has one, and rows of one unit or schedule share it

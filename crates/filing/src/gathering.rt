@@ -4,23 +4,38 @@ ghost use mathlib.Core.Path.{_≡_};
 ghost use Prim.Native.Nat.{_+_, _*_, _≤_};
 ghost use lib.ListN.{length};
 ghost use Rattle.filing.specs.Gathered.{Gathered, RowGathered, copied};
+ghost use Rattle.filing.specs.Links.{Linked, Leads, byUnit, unitKeys, unitKey};
+use crate::links::ROWS;
+use crate::links::unit_key;
 use crate::schedules::UNIT;
 use crate::schedules::WIDTH;
 use crate::schedules::cell;
 
-// Gathers the unit's rows of the first `n`, and answers how many there are.
-pub fn gather(cells: &[u64], n: usize, unit: u64, out: &mut [u64]) -> usize
+// Gathers the unit's rows of the first `n`, linked by unit, and answers how many there are.
+pub fn gather(cells: &[u64], n: usize, by_unit: &[usize], unit: u64, out: &mut [u64]) -> usize
     requires { ⌜ n * 9 ≤ length (now cells) ⌝ }
+    requires { ⌜ Linked (unitKey (now cells)) unitKeys n (now «by_unit») ⌝ }
     requires { ⌜ n * 9 ≤ length (now out) ⌝ }
     ensures { λ r. ⌜ Gathered unit n (now (cells .entry)) (now (out .entry)) (now (out .exit)) r ⌝ }
 {
-    let mut r = 0;
-    let mut k = 0;
-    while k < n {
-        r += gather_row(cells, k, unit, out, r);
-        k += 1;
+    let left = by_unit[ROWS + unit_key(unit)];
+    gather_linked(cells, left, by_unit, unit, out)
+}
+
+// Gathers the unit's rows of the first `left`: links lead from the last of them to the first, so
+// those before a row come before it.
+fn gather_linked(cells: &[u64], left: usize, by_unit: &[usize], unit: u64, out: &mut [u64]) -> usize
+    requires { ⌜ left * 9 ≤ length (now cells) ⌝ }
+    requires { ⌜ left * 9 ≤ length (now out) ⌝ }
+    requires { ⌜ Leads (unitKey (now cells)) (byUnit unit) (now «by_unit») left ⌝ }
+    ensures { λ r. ⌜ Gathered unit left (now (cells .entry)) (now (out .entry)) (now (out .exit)) r ⌝ }
+{
+    if left == 0 {
+        return 0;
     }
-    r
+    let k = left - 1;
+    let r = gather_linked(cells, by_unit[k], by_unit, unit, out);
+    r + gather_row(cells, k, unit, out, r)
 }
 
 // Copies row `k` to row `r` of `out` if it is the unit's; answers 1 if it is, else 0.

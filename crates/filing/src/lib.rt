@@ -13,3 +13,5 @@ pub use files::Filed;
 pub use files::Sizes;
 pub use files::file;
 pub use gathering::gather;
+pub use links::UNIT_LINKS;
+pub use links::link_units;

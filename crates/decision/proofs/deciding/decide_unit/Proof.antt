@@ -7,10 +7,10 @@ use Rattle.decision.proofs.deciding.decide_unit.Statement.{statement}
 use Rattle.decision.proofs.deciding.decide_unit.Tie as tie
 
 gather-requires : tie.Need-gather-requires
-gather-requires c κs = search needs
+gather-requires c κs = let pre = c .before .before .before .before .before .pre in (pre .0 .room, (pre .1 .0, pre .1 .1 .0))
 
 lacks-cost-requires : tie.Need-lacks-cost-requires
-lacks-cost-requires c κs = gathered-rows _ _ _ _ _ _ (c .before .before .before .gather .ensures) (c .before .before .before .before .before .before .before .before .pre .0) (omega (arith, c .before .before .before .gather .ensures .few))
+lacks-cost-requires c κs = gathered-rows _ _ _ _ _ _ (c .before .before .before .gather .ensures) (c .before .before .before .before .before .before .before .before .before .pre .0) (omega (arith, c .before .before .before .gather .ensures .few))
 
 same-length : tie.Need-same-length
 same-length c = search needs
@@ -19,7 +19,7 @@ returns : tie.Need-returns
 returns c = unit-costless _ _ _ _ _ _ (c .before .before .before .before .before .gather .ensures) _ _ _ _ _ (c .before .lacks-cost .ensures) (c .if1 .taken) refl
 
 choose-unit-requires : tie.Need-choose-unit-requires
-choose-unit-requires c κs = gathered-rows _ _ _ _ _ _ (c .before .before .before .before .before .before .gather .ensures) (c .before .before .before .before .before .before .before .before .before .before .before .pre .0) (omega (arith, c .before .before .before .before .before .before .gather .ensures .few))
+choose-unit-requires c κs = gathered-rows _ _ _ _ _ _ (c .before .before .before .before .before .before .gather .ensures) (c .before .before .before .before .before .before .before .before .before .before .before .before .pre .0) (omega (arith, c .before .before .before .before .before .before .gather .ensures .few))
 
 lay-row-requires : tie.Need-lay-row-requires
 lay-row-requires c κs = search needs

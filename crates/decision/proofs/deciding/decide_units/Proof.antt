@@ -10,11 +10,11 @@ use Rattle.decision.proofs.deciding.decide_units.Statement.{statement}
 use Rattle.decision.proofs.deciding.decide_units.Tie as tie
 
 abbrev Inv-loop : tie.InvT-loop
-Inv-loop constraint supply n standing parties amounts schedules m units kinds k rows₀ own₀ i₀ rows own i =
+Inv-loop constraint supply n standing parties amounts schedules m by-unit units kinds k rows₀ own₀ i₀ rows own i =
     (length own ≡ 9216) × Deciding (constraintRow constraint) (supplyRows n supply) (scheduleRows m schedules) (take k units) (take k kinds) rows₀ rows i
 
 abbrev μ-loop : tie.MeasureT-loop
-μ-loop constraint supply n standing parties amounts schedules m units kinds k rows₀ own₀ i₀ rows own i =
+μ-loop constraint supply n standing parties amounts schedules m by-unit units kinds k rows₀ own₀ i₀ rows own i =
     k - i
 
 loop-holds : tie.Need-loop-holds Inv-loop μ-loop
@@ -25,17 +25,17 @@ mul-test-unit c = search needs
 
 shared-slice-read-test-unit : tie.Need-shared-slice-read-test-unit Inv-loop μ-loop
 shared-slice-read-test-unit c =
-    let start = c .before .before .before .before .before .before .before .before .before .before .before in
-    omega (arith, start .pre .1 .1 .1 .units-there)
+    let start = c .before .before .before .before .before .before .before .before .before .before .before .before in
+    omega (arith, start .pre .1 .1 .1 .1 .units-there)
 
 test-unit-requires : tie.Need-test-unit-requires Inv-loop μ-loop
 test-unit-requires c κs =
-    let start = c .before .before .before .before .before .before .before .before .before .before .before in
-    (start .pre .0, (start .pre .1 .0, start .pre .1 .1 .1 .of-supply _ (omega arith)))
+    let start = c .before .before .before .before .before .before .before .before .before .before .before .before in
+    (start .pre .0, (start .pre .1 .0, start .pre .1 .1 .1 .1 .of-supply _ (omega arith)))
 
 shared-slice-read-hour : tie.Need-shared-slice-read-hour Inv-loop μ-loop
 shared-slice-read-hour c =
-    let start = c .before .before .before .before .before .before .before .before .before .before .before .before .before in
+    let start = c .before .before .before .before .before .before .before .before .before .before .before .before .before .before in
     omega (arith, start .pre .0 .room)
 
 mul-decide-unit : tie.Need-mul-decide-unit Inv-loop μ-loop
@@ -43,25 +43,25 @@ mul-decide-unit c = search needs
 
 shared-slice-read-decide-unit : tie.Need-shared-slice-read-decide-unit Inv-loop μ-loop
 shared-slice-read-decide-unit c =
-    let start = c .before .before .before .before .before .before .before .before .before .before .before .before .before .before in
-    omega (arith, start .pre .1 .1 .1 .units-there)
+    let start = c .before .before .before .before .before .before .before .before .before .before .before .before .before .before .before in
+    omega (arith, start .pre .1 .1 .1 .1 .units-there)
 
 mul-decide-unit-2 : tie.Need-mul-decide-unit-2 Inv-loop μ-loop
 mul-decide-unit-2 c = search needs
 
 shared-slice-read-decide-unit-2 : tie.Need-shared-slice-read-decide-unit-2 Inv-loop μ-loop
 shared-slice-read-decide-unit-2 c =
-    let start = c .before .before .before .before .before .before .before .before .before .before .before .before .before .before .before in
-    omega (arith, start .pre .1 .1 .1 .kinds-there)
+    let start = c .before .before .before .before .before .before .before .before .before .before .before .before .before .before .before .before in
+    omega (arith, start .pre .1 .1 .1 .1 .kinds-there)
 
 slice-aggregate-decide-unit : tie.Need-slice-aggregate-decide-unit Inv-loop μ-loop
 slice-aggregate-decide-unit c = omega arith
 
 mul-decide-unit-3 : tie.Need-mul-decide-unit-3 Inv-loop μ-loop
-mul-decide-unit-3 c = omega (arith, c .before .before .before .before .before .before .before .before .before .before .before .before .before .before .before .before .pre .1 .1 .1 .few)
+mul-decide-unit-3 c = omega (arith, c .before .before .before .before .before .before .before .before .before .before .before .before .before .before .before .before .before .pre .1 .1 .1 .1 .few)
 
 mul-decide-unit-4 : tie.Need-mul-decide-unit-4 Inv-loop μ-loop
-mul-decide-unit-4 c = omega (arith, c .before .before .before .before .before .before .before .before .before .before .before .before .before .before .before .before .pre .1 .1 .1 .few)
+mul-decide-unit-4 c = omega (arith, c .before .before .before .before .before .before .before .before .before .before .before .before .before .before .before .before .before .pre .1 .1 .1 .1 .few)
 
 sub-decide-unit : tie.Need-sub-decide-unit Inv-loop μ-loop
 sub-decide-unit c = search needs
@@ -74,29 +74,29 @@ part-decide-unit-end c = search needs
 
 decide-unit-requires : tie.Need-decide-unit-requires Inv-loop μ-loop
 decide-unit-requires c κs =
-    let start = c .before .before .before .before .before .before .before .before .before .before .before .before .before .before .before .before .before in
+    let start = c .before .before .before .before .before .before .before .before .before .before .before .before .before .before .before .before .before .before in
     let loop = c .before .before .before .before .before .before .before .before .loop in
-    (start .pre .1 .1 .0, (omega (arith, start .pre .1 .1 .0 .few, loop .inv .0), turn-room _ _ _ _ _ _ _ (start .pre .1 .1 .1) _ (loop .i) (omega arith) (loop .inv .1)))
+    (start .pre .1 .1 .0, (start .pre .1 .1 .1 .0, (omega (arith, start .pre .1 .1 .0 .few, loop .inv .0), turn-room _ _ _ _ _ _ _ (start .pre .1 .1 .1 .1) _ (loop .i) (omega arith) (loop .inv .1))))
 
-mul-t35 : tie.Need-mul-t35 Inv-loop μ-loop
-mul-t35 c = omega (arith, c .before .before .before .before .before .before .before .before .before .before .before .before .before .before .before .before .before .before .before .before .before .before .pre .1 .1 .1 .few)
+mul-t36 : tie.Need-mul-t36 Inv-loop μ-loop
+mul-t36 c = omega (arith, c .before .before .before .before .before .before .before .before .before .before .before .before .before .before .before .before .before .before .before .before .before .before .before .pre .1 .1 .1 .1 .few)
 
-shared-slice-read-t37 : tie.Need-shared-slice-read-t37 Inv-loop μ-loop
-shared-slice-read-t37 c =
-    let start = c .before .before .before .before .before .before .before .before .before .before .before .before .before .before .before .before .before .before .before .before .before .before .before in
-    omega (arith, start .pre .1 .1 .1 .units-there)
+shared-slice-read-t38 : tie.Need-shared-slice-read-t38 Inv-loop μ-loop
+shared-slice-read-t38 c =
+    let start = c .before .before .before .before .before .before .before .before .before .before .before .before .before .before .before .before .before .before .before .before .before .before .before .before in
+    omega (arith, start .pre .1 .1 .1 .1 .units-there)
 
 same-length : tie.Need-same-length Inv-loop μ-loop
 same-length c =
-    let start = c .before .before .before .before .before .before .before .before .before .before .before .before .before .before .before .before .before .before .before .before .before .before .before in
+    let start = c .before .before .before .before .before .before .before .before .before .before .before .before .before .before .before .before .before .before .before .before .before .before .before .before in
     let loop = c .before .before .before .before .before .before .before .before .before .before .before .before .before .before .loop in
-    turn-length _ _ _ _ _ _ _ (start .pre .1 .1 .1) _ (loop .i) (omega arith) (loop .inv .1) _ (c .before .before .before .before .before .before .before .before .before .before .before .test-unit .ensures) (c .before .before .before .before .before .decide-unit .ensures) _ refl
+    turn-length _ _ _ _ _ _ _ (start .pre .1 .1 .1 .1) _ (loop .i) (omega (arith, c .before .before .before .before .before .before .before .before .before .before .before .before .before .loop-test .taken)) (loop .inv .1) _ (c .before .before .before .before .before .before .before .before .before .before .before .test-unit .ensures) (c .before .before .before .before .before .decide-unit .ensures) _ refl
 
 returns : tie.Need-returns Inv-loop μ-loop
 returns c =
-    let start = c .before .before .before .before .before .before .before .before .before .before .before .before .before .before .before .before .before .before .before .before .before .before .before in
+    let start = c .before .before .before .before .before .before .before .before .before .before .before .before .before .before .before .before .before .before .before .before .before .before .before .before in
     let loop = c .before .before .before .before .before .before .before .before .before .before .before .before .before .before .loop in
-    turn-costless _ _ _ _ _ _ _ (start .pre .1 .1 .1) _ (loop .i) (omega arith) (loop .inv .1) _ (c .before .before .before .before .before .before .before .before .before .before .before .test-unit .ensures) (c .before .before .before .before .before .decide-unit .ensures) (c .before .if1 .taken) _
+    turn-costless _ _ _ _ _ _ _ (start .pre .1 .1 .1 .1) _ (loop .i) (omega (arith, c .before .before .before .before .before .before .before .before .before .before .before .before .before .loop-test .taken)) (loop .inv .1) _ (c .before .before .before .before .before .before .before .before .before .before .before .test-unit .ensures) (c .before .before .before .before .before .decide-unit .ensures) (c .before .if1 .taken) _
 
 add-i : tie.Need-add-i Inv-loop μ-loop
 add-i c = omega arith
@@ -106,15 +106,15 @@ loop-less c = omega arith
 
 loop-again : tie.Need-loop-again Inv-loop μ-loop
 loop-again c =
-    let start = c .before .before .before .before .before .before .before .before .before .before .before .before .before .before .before .before .before .before .before .before .before .before in
+    let start = c .before .before .before .before .before .before .before .before .before .before .before .before .before .before .before .before .before .before .before .before .before .before .before in
     let loop = c .before .before .before .before .before .before .before .before .before .before .before .before .before .loop in
-    (omega arith, turn-next _ _ _ _ _ _ _ (start .pre .1 .1 .1) _ (loop .i) (omega arith) (loop .inv .1) _ (c .before .before .before .before .before .before .before .before .before .before .test-unit .ensures) (c .before .before .before .before .decide-unit .ensures) (c .if1 .left) _ refl)
+    (omega arith, turn-next _ _ _ _ _ _ _ (start .pre .1 .1 .1 .1) _ (loop .i) (omega arith) (loop .inv .1) _ (c .before .before .before .before .before .before .before .before .before .before .test-unit .ensures) (c .before .before .before .before .decide-unit .ensures) (c .if1 .left) _ refl)
 
 same-length-2 : tie.Need-same-length-2 Inv-loop μ-loop
 same-length-2 c = c .before .loop .inv .1 .same-length
 
 returns-2 : tie.Need-returns-2 Inv-loop μ-loop
-returns-2 c = deciding-over _ _ _ _ _ _ _ (c .before .loop .i) (c .before .loop .inv .1) (omega (arith, length-take (c .before .before .before .before .before .before .before .before .before .before .args .k) (c .before .before .before .before .before .before .before .before .before .before .args .units .now)))
+returns-2 c = deciding-over _ _ _ _ _ _ _ (c .before .loop .i) (c .before .loop .inv .1) (omega (arith, length-take (c .before .before .before .before .before .before .before .before .before .before .before .args .k) (c .before .before .before .before .before .before .before .before .before .before .before .args .units .now)))
 
 pub decide-units-spec : {M : Type 1} → statement M
 decide-units-spec =
@@ -138,8 +138,8 @@ decide-units-spec =
     part-decide-unit-start
     part-decide-unit-end
     decide-unit-requires
-    mul-t35
-    shared-slice-read-t37
+    mul-t36
+    shared-slice-read-t38
     same-length
     returns
     add-i

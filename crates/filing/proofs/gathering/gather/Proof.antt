@@ -1,51 +1,42 @@
--- Rows of a unit, one row a turn. Assumes nothing.
-use Prim.Native.Nat.{_-_}
+-- The unit's rows, from the last of its key on. Assumes nothing.
+use mathlib.Core.Path.{_∙_}
+use Rattle.filing.specs.Links.{unitKey}
+use Rattle.filing.proofs.LinkLaws.{key-upto, leads-key}
+use Rattle.filing.proofs.GatherLaws.{gathered-all}
 use native.Mathlib.Omega.{arith}
-use Rattle.filing.proofs.GatherLaws.{row-most, Gathering, gathering-none, gathering-next, gathering-over}
+use borrow.Author.Needs.{needs}
 use Rattle.filing.proofs.gathering.gather.Statement.{statement}
 use Rattle.filing.proofs.gathering.gather.Tie as tie
 
-abbrev Inv-loop : tie.InvT-loop
-Inv-loop cells n unit out₀ r₀ k₀ out r k = Gathering unit n cells out₀ out r k
+unit-key-requires : tie.Need-unit-key-requires
+unit-key-requires c κs = search needs
 
-abbrev μ-loop : tie.MeasureT-loop
-μ-loop cells n unit out₀ r₀ k₀ out r k = n - k
+add-left : tie.Need-add-left
+add-left c = search needs
 
-loop-holds : tie.Need-loop-holds Inv-loop μ-loop
-loop-holds c = gathering-none _ _ _ _ (omega arith) (omega arith)
+mul-left : tie.Need-mul-left
+mul-left c = search needs
 
-gather-row-requires : tie.Need-gather-row-requires Inv-loop μ-loop
-gather-row-requires c κs = omega arith
+shared-slice-read-left : tie.Need-shared-slice-read-left
+shared-slice-read-left c = omega (arith, c .before .before .before .before .before .pre .1 .0 .room)
 
-add-r : tie.Need-add-r Inv-loop μ-loop
-add-r c = omega (arith, row-most (c .before .before .gather-row .ensures))
+gather-linked-requires : tie.Need-gather-linked-requires
+gather-linked-requires c κs = let pre = c .before .before .before .before .before .before .pre in let key = c .before .before .unit-key .ensures in let upto = key-upto _ (pre .1 .0) (key .1) in (omega arith, (omega arith, rw (← key .0) (leads-key _ (pre .1 .0) (key .1))))
 
-add-k : tie.Need-add-k Inv-loop μ-loop
-add-k c = omega arith
+same-length : tie.Need-same-length
+same-length c = search needs
 
-loop-less : tie.Need-loop-less Inv-loop μ-loop
-loop-less c = omega arith
-
-loop-again : tie.Need-loop-again Inv-loop μ-loop
-loop-again c = gathering-next _ _ _ _ _ _ _ (c .before .before .before .before .before .loop .inv) (omega arith) _ _ (c .before .before .gather-row .ensures)
-
-same-length : tie.Need-same-length Inv-loop μ-loop
-same-length c = c .before .loop .inv .same-length
-
-returns : tie.Need-returns Inv-loop μ-loop
-returns c = gathering-over _ _ _ _ _ _ _ (c .before .loop .inv) (omega arith)
+returns : tie.Need-returns
+returns c = let key = c .before .before .before .before .before .unit-key .ensures in gathered-all _ _ _ _ _ _ _ _ (c .before .before .before .before .before .before .before .before .before .pre .1 .0) (key .0) (key .1) (c .before .before .gather-linked .ensures)
 
 pub gather-spec : {M : Type 1} → statement M
 gather-spec =
     tie.close
     (tie.spec
-    Inv-loop
-    μ-loop
-    loop-holds
-    gather-row-requires
-    add-r
-    add-k
-    loop-less
-    loop-again
+    unit-key-requires
+    add-left
+    mul-left
+    shared-slice-read-left
+    gather-linked-requires
     same-length
     returns)

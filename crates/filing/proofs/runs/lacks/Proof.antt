@@ -46,7 +46,7 @@ mul-left-2 : tie.Need-mul-left-2 Inv-loop μ-loop
 mul-left-2 c = omega arith
 
 shared-slice-read-left-2 : tie.Need-shared-slice-read-left-2 Inv-loop μ-loop
-shared-slice-read-left-2 c = omega (arith, c .before .before .before .before .loop .inv .room)
+shared-slice-read-left-2 c = omega (arith, c .before .before .before .before .loop .inv .leads .room)
 
 loop-less : tie.Need-loop-less Inv-loop μ-loop
 loop-less c = along-less _ _ _ _ (c .before .before .before .before .loop .inv) (omega arith)

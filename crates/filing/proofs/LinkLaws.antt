@@ -168,7 +168,7 @@ module _ (key : ℕ → ℕ) where
     other-fails : (k : ℕ) → (key k ≡ x → ⊥) → p k ≡ false
     other-fails k e = ⊎-elim (λ (t : p k ≡ true). absurd (e (alike k t))) (λ (f : p k ≡ false). f) (either (p k))
 
-    last-any : (k : ℕ) → anyBefore p k ≡ anyBefore p (lastSame key x k)
+    pub last-any : (k : ℕ) → anyBefore p k ≡ anyBefore p (lastSame key x k)
     unfolding anyBefore
     last-any zero = unfold lastSame in refl
     last-any (suc k) = ⊎-elim here (later (last-any k)) (eq-or-ne (key k) x)
@@ -232,17 +232,17 @@ linked-to k l h =
 pub linked-upto : {key : ℕ → ℕ} {k : ℕ} {links : List ℕ} → LinkedTo key k links → getD links k 0 ≤ k
 linked-upto {key} {k} l = rw (l .rows k (omega arith)) (last-upto key (key k) k)
 
+pub any-last : (p : ℕ → Bool) (left : ℕ) → 0 < left → anyBefore p left ≡ (p (left - 1) || anyBefore p (left - 1))
+unfolding anyBefore
+any-last p left h =
+    let one-less : left ≡ suc (left - 1) = omega arith in
+    ap (anyBefore p) one-less
+
 -- one row of a search along links
 module _ (p : ℕ → Bool) (k : ℕ) (links : List ℕ) (left : ℕ) (l : Along p k links left) where
   module _ (h : 0 < left) where
-    last-left : anyBefore p left ≡ (p (left - 1) || anyBefore p (left - 1))
-    unfolding anyBefore
-    last-left =
-        let one-less : left ≡ suc (left - 1) = omega arith in
-        ap (anyBefore p) one-less
-
     pub along-here : p (left - 1) ≡ true → true ≡ anyBefore p k
-    along-here e = sym (l .rest ∙ last-left ∙ rw e)
+    along-here e = sym (l .rest ∙ any-last p left h ∙ rw e)
 
     pub along-less : getD links (left - 1) 0 < left
     along-less = leads-less (l .key) (l .wanted) links left (l .leads) h
@@ -256,7 +256,7 @@ module _ (p : ℕ → Bool) (k : ℕ) (links : List ℕ) (left : ℕ) (l : Along
           leads = leads-next (l .key) (l .wanted) links left (l .leads) h;
           upto = omega (arith, along-less, l .upto);
           rest =
-              l .rest ∙ last-left
+              l .rest ∙ any-last p left h
               ∙ rw e (last-any (l .key) p (l .wanted) (l .alike) (left - 1) ∙ rw (← leads-last (l .key) (l .wanted) links left (l .leads) h));
         }
 

@@ -1,20 +1,22 @@
 -- Laws of what supply rows must be to each other, row by row, over plain lists. Assumes nothing.
-use Prim.Native.Nat.{ℕ, suc, _+_, _-_, _*_, _≤_, _<_}
+use Prim.Native.Nat.{ℕ, zero, suc, _+_, _-_, _*_, _≤_, _<_}
 use mathlib.Core.Path.{_≡_, refl, sym, _∙_, ap}
-use mathlib.Core.Bool.{true, false, cond, not}
+use mathlib.Core.Logic.{⊎-elim}
+use mathlib.Core.Bool.{Bool, true, false, cond, not, _||_}
 use mathlib.Core.List.{List, [], _∷_}
 use mathlib.Core.Option.{Option, none, some, Option·getD}
 use native.Mathlib.Omega.{arith}
 use native.Mathlib.Numerals.{add-one}
 use lib.Dec.{eqb, ltb}
-use lib.ListN.{length, getD, take, drop}
-use lib.Seq.{take-append-seam, length-take-le}
-use borrow.Author.Tests.{ltb-false, lt-ltb, le-ltb, eq-eqb, ne-eqb}
+use lib.ListN.{length, getD, take, drop, set, length-set}
+use lib.Seq.{take-append-seam, length-take-le, getD-set-same, getD-set-other}
+use borrow.Author.Tests.{ltb-false, lt-ltb, le-ltb, eq-eqb, ne-eqb, eqb-true, not-false}
 use Rattle.base.specs.Rising.{inserted}
 use Rattle.base.specs.Search.{any, firstAtOdds}
 use Rattle.base.specs.Writing.{Wrote}
 use Rattle.base.proofs.Lists.{drop-end}
-use Rattle.base.proofs.Tests.{or-fst, or-snd}
+use Rattle.base.proofs.Elements.{any-same}
+use Rattle.base.proofs.Tests.{either, eq-or-ne, and-fst, and-snd, or-fst, or-snd}
 use Rattle.tables.specs.Rows.{SupplyRow, supplyRows}
 use Rattle.tables.proofs.RowViews.{supply-next, supply-length}
 use Rattle.filing.specs.Supply.{
@@ -29,7 +31,9 @@ use Rattle.filing.specs.Supply.{
   supplyOdds,
   supplyAtOdds,
 }
-use Rattle.filing.specs.SupplyPromises.{Counted, tooMany, rowAt, earlier}
+use Rattle.filing.specs.Links.{lastSame, Keyless, anyBefore, unitKeys}
+use Rattle.filing.specs.SupplyPromises.{Counted, tooMany, rowAt, earlier, AgreeBefore, supplyKey}
+use Rattle.filing.proofs.LinkLaws.{last-here, last-later, last-upto, last-any, any-last}
 
 -- a run in which different numbers are laid down, `count` so far
 pub record Growing (most : ℕ) (old now : List ℕ) (count : ℕ) : Type 0 where
@@ -212,30 +216,123 @@ module _ (cells : List ℕ) (k : ℕ) where
       let over : left ≡ 0 = omega arith in
       sym (c .rest ∙ rw over)
 
--- n rows, of which the first k are at odds with none
-pub record Agreeing (cells : List ℕ) (n k : ℕ) : Type 0 where
+-- the last row of its key before the row at k
+pub keyed-upto : (cells : List ℕ) (k left : ℕ) → left ≡ lastSame (supplyKey cells) (supplyKey cells k) k → left ≤ k
+keyed-upto cells k left is = rw is (last-upto (supplyKey cells) (supplyKey cells k) k)
+
+-- the row at k against the last of its key, where those before it agree
+module _ (cells : List ℕ) (k left : ℕ) (is : left ≡ lastSame (supplyKey cells) (supplyKey cells k) k) where
+  abbrev odd : ℕ → Bool
+  odd j = supplyOdds (rowAt cells k) (rowAt cells j)
+
+  earlier-any : (r : SupplyRow) (j : ℕ) → any (supplyOdds r) (earlier cells j) ≡ anyBefore (λ (i : ℕ). supplyOdds r (rowAt cells i)) j
+  unfolding any earlier anyBefore
+  earlier-any r zero = refl
+  earlier-any r (suc j) = rw (earlier-any r j)
+
+  alike : (j : ℕ) → odd j ≡ true → supplyKey cells j ≡ supplyKey cells k
+  unfolding supplyOdds
+  alike j e =
+      rw (eqb-true (rowAt cells k .unit) (rowAt cells j .unit) (and-fst (eqb (rowAt cells k .unit) (rowAt cells j .unit)) _ e))
+
+  as-last : any (supplyOdds (rowAt cells k)) (earlier cells k) ≡ anyBefore odd left
+  as-last = earlier-any (rowAt cells k) k ∙ last-any (supplyKey cells) odd (supplyKey cells k) alike k ∙ rw (← is)
+
+  pub last-none : left ≡ 0 → false ≡ any (supplyOdds (rowAt cells k)) (earlier cells k)
+  unfolding anyBefore
+  last-none e = sym (as-last ∙ rw e)
+
+  -- rows that are not at odds, of one unit, are at odds with the same rows
+  same-odds : (j : ℕ) → rowAt cells k .unit ≡ rowAt cells j .unit → odd j ≡ false → (e : SupplyRow) → supplyOdds (rowAt cells k) e ≡ supplyOdds (rowAt cells j) e
+  unfolding supplyOdds
+  same-odds j unit agreed e =
+      let shared = not-false _ (simp (eq-eqb (rowAt cells k .unit) (rowAt cells j .unit) unit) at agreed) in
+      let supplier = eqb-true (rowAt cells k .supplier) (rowAt cells j .supplier) (and-fst _ (eqb (rowAt cells k .dfax) (rowAt cells j .dfax)) shared) in
+      let dfax = eqb-true (rowAt cells k .dfax) (rowAt cells j .dfax) (and-snd (eqb (rowAt cells k .supplier) (rowAt cells j .supplier)) _ shared) in
+      rw (unit, supplier, dfax)
+
+  pub last-alone :
+      0 < left → AgreeBefore cells k → rowAt cells k .unit ≡ rowAt cells (left - 1) .unit → (t : Bool) → t ≡ odd (left - 1) →
+      t ≡ any (supplyOdds (rowAt cells k)) (earlier cells k)
+  last-alone h agree unit t said = said ∙ sym (as-last ∙ any-last odd left h ∙ ⊎-elim here other (either (odd (left - 1))))
+    where
+      here : odd (left - 1) ≡ true → (odd (left - 1) || anyBefore odd (left - 1)) ≡ odd (left - 1)
+      here e = rw e
+
+      other : odd (left - 1) ≡ false → (odd (left - 1) || anyBefore odd (left - 1)) ≡ odd (left - 1)
+      other e =
+          rw e
+          (sym (earlier-any (rowAt cells k) (left - 1))
+          ∙ any-same (supplyOdds (rowAt cells k)) (supplyOdds (rowAt cells (left - 1))) (earlier cells (left - 1)) (same-odds (left - 1) unit e)
+          ∙ agree (left - 1) (omega (arith, keyed-upto cells k left is)))
+
+-- n rows, of which the first k are at odds with none, and each key has its last row
+pub record Agreeing (cells : List ℕ) (n : ℕ) (old last : List ℕ) (k : ℕ) : Type 0 where
   pub upto : k ≤ n
   pub room : n * 5 ≤ length cells
+  pub keys-room : unitKeys ≤ length last
+  pub same-length : length last ≡ length old
+  pub agree : AgreeBefore cells k
+  pub keys : (x : ℕ) → x < unitKeys → getD last x 0 ≡ lastSame (supplyKey cells) x k
   pub rest : supplyAtOdds (supplyRows n cells) ≡ firstAtOdds supplyOdds (earlier cells k) (suc k) (drop k (supplyRows n cells))
 
-module _ (cells : List ℕ) (n : ℕ) where
-  pub agreeing-none : n * 5 ≤ length cells → Agreeing cells n 0
-  unfolding supplyAtOdds earlier
-  agreeing-none h = record { upto = omega arith; room = h; rest = refl }
+module _ (cells : List ℕ) (n : ℕ) (old : List ℕ) where
+  pub agreeing-none : n * 5 ≤ length cells → unitKeys ≤ length old → Keyless old → Agreeing cells n old old 0
+  unfolding supplyAtOdds earlier lastSame
+  agreeing-none h room keyless =
+      record {
+        upto = omega arith;
+        room = h;
+        keys-room = room;
+        same-length = refl;
+        agree = λ (j : ℕ) (i : j < 0). absurd (omega arith);
+        keys = λ (x : ℕ) (i : x < unitKeys). keyless x;
+        rest = refl;
+      }
 
-  pub agreeing-next :
-      (k : ℕ) → Agreeing cells n k → k < n → any (supplyOdds (rowAt cells k)) (earlier cells k) ≡ false →
-      Agreeing cells n (k + 1)
-  unfolding firstAtOdds earlier
-  agreeing-next k a h e =
-      record { upto = omega arith; room = a .room; rest = a .rest ∙ rw (supply-next n cells k h, e, add-one k) }
+  -- the last row of the next row's key, x
+  pub last-keyed : {last : List ℕ} {k : ℕ} (x : ℕ) → Agreeing cells n old last k → x ≡ supplyKey cells k → x < unitKeys → getD last x 0 ≡ lastSame (supplyKey cells) (supplyKey cells k) k
+  last-keyed x a key one = a .keys x one ∙ rw key
 
-  pub agreeing-here :
-      (k : ℕ) → Agreeing cells n k → k < n → any (supplyOdds (rowAt cells k)) (earlier cells k) ≡ true →
-      k + 1 ≡ Option·getD (supplyAtOdds (supplyRows n cells)) 0
+  module _ (last : List ℕ) (k : ℕ) (t : Bool) (a : Agreeing cells n old last k) (h : k < n) (is : t ≡ any (supplyOdds (rowAt cells k)) (earlier cells k)) where
+    -- the row's key is x
+    pub agreeing-next :
+        (x y : ℕ) → t ≡ false → x ≡ supplyKey cells k → x < unitKeys → y ≡ k + 1 → Agreeing cells n old (set last x y) (k + 1)
+    agreeing-next x y e key one next =
+        record {
+          upto = omega arith;
+          room = a .room;
+          keys-room = rw (length-set last x y) (a .keys-room);
+          same-length = length-set last x y ∙ a .same-length;
+          agree = agree-next;
+          keys = keys-next;
+          rest = a .rest ∙ (unfold firstAtOdds earlier in rw (supply-next n cells k h, ← is, e, add-one k));
+        }
+      where
+        agree-next : AgreeBefore cells (k + 1)
+        agree-next j f =
+            ⊎-elim
+            (λ (s : j ≡ k). rw s (sym is ∙ e))
+            (λ (o : j ≡ k → ⊥). a .agree j (omega arith))
+            (eq-or-ne j k)
+
+        keys-next : (z : ℕ) → z < unitKeys → getD (set last x y) z 0 ≡ lastSame (supplyKey cells) z (k + 1)
+        keys-next z f = ⊎-elim here other (eq-or-ne z x) ∙ ap (lastSame (supplyKey cells) z) (sym (add-one k))
+          where
+            here : z ≡ x → getD (set last x y) z 0 ≡ lastSame (supplyKey cells) z (suc k)
+            here s =
+                rw (s, getD-set-same last x y 0 (omega (arith, a .keys-room)), last-here (supplyKey cells) x k (sym key), next)
+                (add-one k)
+
+            other : (z ≡ x → ⊥) → getD (set last x y) z 0 ≡ lastSame (supplyKey cells) z (suc k)
+            other o =
+                getD-set-other last x z y 0 o
+                ∙ a .keys z f ∙ sym (last-later (supplyKey cells) z k (λ (s : supplyKey cells k ≡ z). o (sym s ∙ sym key)))
+
+    pub agreeing-here : t ≡ true → k + 1 ≡ Option·getD (supplyAtOdds (supplyRows n cells)) 0
+    unfolding firstAtOdds
+    agreeing-here e = rw (a .rest, supply-next n cells k h, ← is, e, add-one k)
+
+  pub agreeing-over : (last : List ℕ) (k : ℕ) → Agreeing cells n old last k → n ≤ k → 0 ≡ Option·getD (supplyAtOdds (supplyRows n cells)) 0
   unfolding firstAtOdds
-  agreeing-here k a h e = rw (a .rest, supply-next n cells k h, e, add-one k)
-
-  pub agreeing-over : (k : ℕ) → Agreeing cells n k → n ≤ k → 0 ≡ Option·getD (supplyAtOdds (supplyRows n cells)) 0
-  unfolding firstAtOdds
-  agreeing-over k a h = rw (a .rest, drop-end k (supplyRows n cells) (rw (supply-length n cells) h))
+  agreeing-over last k a h = rw (a .rest, drop-end k (supplyRows n cells) (rw (supply-length n cells) h))

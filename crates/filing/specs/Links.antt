@@ -22,6 +22,9 @@ mostLinked = 1024
 abbrev pub Unlinked : List ℕ → Type 0
 Unlinked links = (x : ℕ) → getD links (mostLinked + x) 0 ≡ 0
 
+abbrev pub Keyless : List ℕ → Type 0
+Keyless last = (x : ℕ) → getD last x 0 ≡ 0
+
 -- row k comes, with the key x
 abbrev pub linkedTo : List ℕ → ℕ → ℕ → List ℕ
 linkedTo links x k = set (set links k (getD links (mostLinked + x) 0)) (mostLinked + x) (k + 1)

@@ -1,13 +1,15 @@
 -- What the functions on supply rows promise, of rows that stand in a flat run of cells. Assumes nothing.
-use Prim.Native.Nat.{ℕ, zero, suc, _+_, _*_, _≤_}
+use Prim.Native.Nat.{ℕ, zero, suc, _+_, _*_, _≤_, _<_}
 use mathlib.Core.Path.{_≡_}
-use mathlib.Core.Bool.{Bool, _||_}
+use mathlib.Core.Bool.{Bool, false, _||_}
 use mathlib.Core.List.{List, [], _∷_}
 use mathlib.Core.Option.{none, Option·getD}
 use lib.Dec.{ltb}
 use lib.ListN.{length, getD, take}
+use Rattle.base.specs.Search.{any}
 use Rattle.tables.specs.Rows.{SupplyRow}
-use Rattle.filing.specs.Supply.{units, suppliers, mostUnits, mostSuppliers, crowded}
+use Rattle.filing.specs.Links.{byUnit}
+use Rattle.filing.specs.Supply.{units, suppliers, mostUnits, mostSuppliers, crowded, supplyOdds}
 use Rattle.filing.specs.declared.supply.Counts.{Counts}
 
 -- the first `count` numbers of a run are the wanted ones, and no more than the most
@@ -41,3 +43,11 @@ rowAt cells k =
 unfoldable pub earlier : List ℕ → ℕ → List SupplyRow
 earlier cells zero = []
 earlier cells (suc k) = rowAt cells k ∷ earlier cells k
+
+-- none of the rows before a place is at odds with an earlier one
+abbrev pub AgreeBefore : List ℕ → ℕ → Type 0
+AgreeBefore cells k = (j : ℕ) → j < k → any (supplyOdds (rowAt cells j)) (earlier cells j) ≡ false
+
+-- the key of the row at a place: rows of one unit share it
+abbrev pub supplyKey : List ℕ → ℕ → ℕ
+supplyKey cells k = byUnit (getD cells (k * 5 + 0) 0)

@@ -7,13 +7,18 @@ ghost use Prim.Native.Nat.{_+_, _*_, _≤_, _<_};
 ghost use lib.ListN.{length};
 ghost use Rattle.base.specs.Search.{any};
 ghost use Rattle.tables.specs.Rows.{supplyRows};
+ghost use Rattle.filing.specs.Links.{lastSame, Keyless, unitKeys};
 ghost use Rattle.filing.specs.Supply.{mostUnits, mostSuppliers, supplyOdds, supplyAtOdds};
-ghost use Rattle.filing.specs.SupplyPromises.{Counted, tooMany, rowAt, earlier};
+ghost use Rattle.filing.specs.SupplyPromises.{Counted, tooMany, rowAt, earlier, AgreeBefore, supplyKey};
+use crate::links::unit_key;
 use crate::numbers::insert;
 
 const UNITS: usize = 64;
 
 const SUPPLIERS: usize = 32;
+
+// How many keys the units have.
+const KEYS: usize = 1024;
 
 // How many cells a row has, and which of them are read here.
 const WIDTH: usize = 5;
@@ -76,14 +81,47 @@ pub fn supply_at_odds(cells: &[u64], n: usize) -> usize
     requires { ⌜ n * 5 ≤ length (now cells) ⌝ }
     ensures { λ r. ⌜ r ≡ Option·getD (supplyAtOdds (supplyRows n (now (cells .entry)))) 0 ⌝ }
 {
+    let mut last = [0usize; KEYS];
+    first_at_odds(cells, n, &mut last)
+}
+
+// The same, with a lent run in which each key has one more than the place of its last row so far.
+fn first_at_odds(cells: &[u64], n: usize, last: &mut [usize]) -> usize
+    requires { ⌜ n * 5 ≤ length (now cells) ⌝ }
+    requires { ⌜ unitKeys ≤ length (now last) ⌝ }
+    requires { ⌜ Keyless (now last) ⌝ }
+    ensures { λ r. ⌜ r ≡ Option·getD (supplyAtOdds (supplyRows n (now (cells .entry)))) 0 ⌝ }
+{
     let mut k = 0;
     while k < n {
-        if at_odds_with_earlier(cells, k) {
+        let key = unit_key(cells[k * WIDTH + UNIT]);
+        if at_odds_with_last(cells, k, last[key]) {
             return k + 1;
         }
+        last[key] = k + 1;
         k += 1;
     }
     0
+}
+
+// Whether the row at k is at odds with one before it, where none of those is at odds with an
+// earlier one: rows of its unit agree, so the last of them will do. Left is the last row of its key,
+// counted from 1; where that is of another unit, all are compared.
+fn at_odds_with_last(cells: &[u64], k: usize, left: usize) -> bool
+    requires { ⌜ k * 5 + 5 ≤ length (now cells) ⌝ }
+    requires { ⌜ left ≤ k ⌝ }
+    requires { ⌜ left ≡ lastSame (supplyKey (now cells)) (supplyKey (now cells) k) k ⌝ }
+    requires { ⌜ AgreeBefore (now cells) k ⌝ }
+    ensures { λ r. ⌜ r ≡ any (supplyOdds (rowAt (now (cells .entry)) k)) (earlier (now (cells .entry)) k) ⌝ }
+{
+    if left == 0 {
+        return false;
+    }
+    let j = left - 1;
+    if cells[k * WIDTH + UNIT] != cells[j * WIDTH + UNIT] {
+        return at_odds_with_earlier(cells, k);
+    }
+    at_odds(cells, k, j)
 }
 
 // Whether the row at k is at odds with one before it.

@@ -9,7 +9,7 @@ use Rattle.filing.specs.Answers.{lowestOf}
 use Rattle.filing.specs.Checks.{supplyChecked, runsChecked, schedulesChecked, SupplyChecked, InHoursOf}
 use Rattle.filing.specs.Ranges.{Checked}
 use Rattle.filing.specs.Schedules.{schedulesAtOdds, strange, unscheduled, lacking}
-use Rattle.filing.specs.Supply.{units, crowded, supplyAtOdds}
+use Rattle.filing.specs.Supply.{crowded, supplyAtOdds}
 use Rattle.filing.specs.SupplyPromises.{Counted}
 use Rattle.filing.specs.declared.checks.ScheduleCheck.{ScheduleCheck}
 use Rattle.filing.specs.declared.checks.ScheduleCheck.the-variants.{

@@ -9,18 +9,18 @@ use native.Mathlib.Numerals.{add-one}
 use lib.Dec.{eqb}
 use lib.ListN.{length, getD, drop, set, replicate, length-set}
 use lib.Seq.{getD-set-same, getD-set-other, lt-length-set}
-use borrow.Author.Tests.{eq-eqb, ne-eqb, eqb-true, eqb-false}
+use borrow.Author.Tests.{eq-eqb, ne-eqb, eqb-true}
 use Rattle.base.specs.Rising.{among}
 use Rattle.base.specs.Search.{any}
 use Rattle.base.proofs.Tests.{either, eq-or-ne}
 use Rattle.tables.specs.Rows.{ScheduleRow, scheduleRows}
 use Rattle.tables.proofs.RowViews.{scheduleAt, schedule-next}
 use Rattle.filing.specs.Answers.{earlier, KnownBefore}
-use Rattle.filing.specs.Links.{lastSame, mostLinked, Unlinked, linkedTo, Linked, LinkedTo, anyBefore, Leads, Along, unitKeys, byUnit, unitKey}
+use Rattle.filing.specs.Links.{lastSame, mostLinked, Unlinked, rowLinked, Linked, LinkedTo, anyBefore, Leads, Along, unitKeys, byUnit, unitKey}
 use Rattle.filing.proofs.ScheduleLaws.{rows-end}
 use Rattle.filing.proofs.UnitLaws.{one-of}
 
--- where a run begins with zeros, no key has a row
+-- a run of zeros has no row
 pub unlinked : (n i : ℕ) → getD {A = ℕ} (replicate n 0) i 0 ≡ 0
 unlinked zero i = refl
 unlinked (suc n) zero = refl
@@ -54,7 +54,7 @@ module _ (key : ℕ → ℕ) where
           room = room;
           same-length = refl;
           by-row = λ (i : ℕ) (h : i < 0). absurd (omega arith);
-          by-key = λ (x : ℕ) (h : x < keys). none x;
+          by-key = λ (x : ℕ) (h : x < keys). none (mostLinked + x);
         }
 
     module _ (now : List ℕ) (k x : ℕ) (l : Linking key keys n old now k) (h : k < n) (is : x ≡ key k) (one : x < keys) where
@@ -64,41 +64,41 @@ module _ (key : ℕ → ℕ) where
       abbrev stored : List ℕ
       stored = set now k head
 
-      row-kept : (i : ℕ) → i < mostLinked → getD (linkedTo now x k) i 0 ≡ getD stored i 0
+      row-kept : (i : ℕ) → i < mostLinked → getD (rowLinked now x k) i 0 ≡ getD stored i 0
       row-kept i f = getD-set-other stored (mostLinked + x) i (k + 1) 0 (λ (e : i ≡ mostLinked + x). omega arith)
 
       key-kept : (y : ℕ) → getD stored (mostLinked + y) 0 ≡ getD now (mostLinked + y) 0
       key-kept y = getD-set-other now k (mostLinked + y) head 0 (λ (e : mostLinked + y ≡ k). omega (arith, l .few))
 
-      rows-next : (i : ℕ) → i < k + 1 → getD (linkedTo now x k) i 0 ≡ lastSame key (key i) i
+      rows-next : (i : ℕ) → i < k + 1 → getD (rowLinked now x k) i 0 ≡ lastSame key (key i) i
       rows-next i f = ⊎-elim here earlier (eq-or-ne i k)
         where
-          here : i ≡ k → getD (linkedTo now x k) i 0 ≡ lastSame key (key i) i
+          here : i ≡ k → getD (rowLinked now x k) i 0 ≡ lastSame key (key i) i
           here e =
               row-kept i (omega (arith, l .few))
               ∙ rw (e, getD-set-same now k head 0 (omega (arith, l .few, l .room)), l .by-key x one, is)
 
-          earlier : (i ≡ k → ⊥) → getD (linkedTo now x k) i 0 ≡ lastSame key (key i) i
+          earlier : (i ≡ k → ⊥) → getD (rowLinked now x k) i 0 ≡ lastSame key (key i) i
           earlier e =
               row-kept i (omega (arith, l .few)) ∙ getD-set-other now k i head 0 e ∙ l .by-row i (omega arith)
 
-      keys-next : (y : ℕ) → y < keys → getD (linkedTo now x k) (mostLinked + y) 0 ≡ lastSame key y (k + 1)
+      keys-next : (y : ℕ) → y < keys → getD (rowLinked now x k) (mostLinked + y) 0 ≡ lastSame key y (k + 1)
       keys-next y f = ⊎-elim here other (eq-or-ne y x) ∙ ap (lastSame key y) (sym (add-one k))
         where
-          here : y ≡ x → getD (linkedTo now x k) (mostLinked + y) 0 ≡ lastSame key y (suc k)
+          here : y ≡ x → getD (rowLinked now x k) (mostLinked + y) 0 ≡ lastSame key y (suc k)
           here e =
               rw (e, getD-set-same stored (mostLinked + x) (k + 1) 0 (lt-length-set now k head (omega (arith, l .room))), last-here x k (sym is))
               (add-one k)
 
-          other : (y ≡ x → ⊥) → getD (linkedTo now x k) (mostLinked + y) 0 ≡ lastSame key y (suc k)
+          other : (y ≡ x → ⊥) → getD (rowLinked now x k) (mostLinked + y) 0 ≡ lastSame key y (suc k)
           other e =
               getD-set-other stored (mostLinked + x) (mostLinked + y) (k + 1) 0 (λ (s : mostLinked + y ≡ mostLinked + x). e (omega arith))
               ∙ key-kept y ∙ l .by-key y f ∙ sym (last-later y k (λ (s : key k ≡ y). e (sym s ∙ sym is)))
 
-      same : length (linkedTo now x k) ≡ length now
+      same : length (rowLinked now x k) ≡ length now
       same = length-set stored (mostLinked + x) (k + 1) ∙ length-set now k head
 
-      pub linking-next : (next : List ℕ) → next ≡ linkedTo now x k → Linking key keys n old next (k + 1)
+      pub linking-next : (next : List ℕ) → next ≡ rowLinked now x k → Linking key keys n old next (k + 1)
       linking-next next e =
           rw e
           record {

@@ -123,7 +123,7 @@ module _ (p : ScheduleRow → Bool) where
       go true below = rw (none-those (scheduleOdds x) seen (odds-here x seen xs k f)) (below (suc j))
       go false below = below j
 
-pub checked-own : {h : ℕ} {rs : List ScheduleRow} (u : ℕ) → Checked h rs → Checked h (own u rs)
+checked-own : {h : ℕ} {rs : List ScheduleRow} (u : ℕ) → Checked h rs → Checked h (own u rs)
 unfolding own schedulesAtOdds those
 checked-own {h} {rs} u c =
     record {
@@ -232,7 +232,7 @@ module _ (h : ℕ) (rs : List ScheduleRow) (c : Checked h rs) where
   noSteps r = not (runs h rs r)
 
   -- rule 9 by steps
-  pub lacks-by-steps : lacks h rs ≡ any (λ (r : ScheduleRow). not (runs h rs r)) rs
+  lacks-by-steps : lacks h rs ≡ any (λ (r : ScheduleRow). not (runs h rs r)) rs
   lacks-by-steps = any-agree noRun noSteps rs steps run
     where
       steps : any noRun rs ≡ false → any noSteps rs ≡ false

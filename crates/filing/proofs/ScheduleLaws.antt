@@ -9,7 +9,7 @@ use native.Mathlib.Omega.{arith}
 use native.Mathlib.Numerals.{add-one}
 use lib.ListN.{length, getD, take, drop}
 use lib.Seq.{getD-take, length-take-le}
-use borrow.Author.Tests.{eq-eqb, ne-eqb, not-false}
+use borrow.Author.Tests.{not-false}
 use Rattle.base.specs.Rising.{among}
 use Rattle.base.specs.Search.{first, find}
 use Rattle.base.proofs.Finds.{find-none, find-here, find-later}
@@ -22,45 +22,11 @@ use Rattle.filing.specs.Answers.{lowestOf, KnownBefore}
 use Rattle.filing.specs.Schedules.{strange}
 use Rattle.filing.specs.declared.schedules.Lowest.the-variants.{Number, Nothing}
 
--- the first `count` of some numbers, of which i are passed
-pub record Listing (number : ℕ) (numbers : List ℕ) (count i : ℕ) : Type 0 where
-  pub within : count ≤ length numbers
-  pub upto : i ≤ count
-  pub rest : among number (take count numbers) ≡ among number (drop i (take count numbers))
-
 numbers-next :
     (numbers : List ℕ) (count i : ℕ) → count ≤ length numbers → i < count →
     drop i (take count numbers) ≡ getD numbers i 0 ∷ drop (i + 1) (take count numbers)
 numbers-next numbers count i w h =
     drop-next 0 i (take count numbers) (rw (length-take-le count numbers w) h) ∙ rw (getD-take count numbers i 0 h)
-
-module _ (number : ℕ) (numbers : List ℕ) (count : ℕ) where
-  pub listing-none : count ≤ length numbers → Listing number numbers count 0
-  listing-none h = record { within = h; upto = omega arith; rest = refl }
-
-  pub listing-here :
-      (i : ℕ) → Listing number numbers count i → i < count → getD numbers i 0 ≡ number →
-      true ≡ among number (take count numbers)
-  unfolding among
-  listing-here i l h e =
-      sym (l .rest ∙ rw (numbers-next numbers count i (l .within) h, eq-eqb number (getD numbers i 0) (sym e)))
-
-  pub listing-next :
-      (i : ℕ) → Listing number numbers count i → i < count → (getD numbers i 0 ≡ number → ⊥) →
-      Listing number numbers count (i + 1)
-  unfolding among
-  listing-next i l h e =
-      record {
-        within = l .within;
-        upto = omega arith;
-        rest = l .rest ∙ rw (numbers-next numbers count i (l .within) h, ne-eqb number (getD numbers i 0) (λ s. e (sym s)));
-      }
-
-  pub listing-over :
-      (i : ℕ) → Listing number numbers count i → count ≤ i → false ≡ among number (take count numbers)
-  unfolding among
-  listing-over i l h =
-      sym (l .rest ∙ rw (drop-end i (take count numbers) (rw (length-take-le count numbers (l .within)) h)))
 
 -- n rows, of which k are passed
 module _ (n : ℕ) (cells : List ℕ) where

@@ -31,7 +31,7 @@ use Rattle.filing.specs.Supply.{
   supplyOdds,
   supplyAtOdds,
 }
-use Rattle.filing.specs.Links.{lastSame, Keyless, anyBefore, unitKeys}
+use Rattle.filing.specs.Links.{lastSame, Unlinked, anyBefore, unitKeys}
 use Rattle.filing.specs.SupplyPromises.{Counted, tooMany, rowAt, earlier, AgreeBefore, supplyKey}
 use Rattle.filing.proofs.LinkLaws.{last-here, last-later, last-upto, last-any, any-last}
 
@@ -277,16 +277,16 @@ pub record Agreeing (cells : List ℕ) (n : ℕ) (old last : List ℕ) (k : ℕ)
   pub rest : supplyAtOdds (supplyRows n cells) ≡ firstAtOdds supplyOdds (earlier cells k) (suc k) (drop k (supplyRows n cells))
 
 module _ (cells : List ℕ) (n : ℕ) (old : List ℕ) where
-  pub agreeing-none : n * 5 ≤ length cells → unitKeys ≤ length old → Keyless old → Agreeing cells n old old 0
+  pub agreeing-none : n * 5 ≤ length cells → unitKeys ≤ length old → Unlinked old → Agreeing cells n old old 0
   unfolding supplyAtOdds earlier lastSame
-  agreeing-none h room keyless =
+  agreeing-none h room unlinked =
       record {
         upto = omega arith;
         room = h;
         keys-room = room;
         same-length = refl;
         agree = λ (j : ℕ) (i : j < 0). absurd (omega arith);
-        keys = λ (x : ℕ) (i : x < unitKeys). keyless x;
+        keys = λ (x : ℕ) (i : x < unitKeys). unlinked x;
         rest = refl;
       }
 

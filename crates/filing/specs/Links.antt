@@ -18,16 +18,13 @@ lastSame key x (suc k) =
 abbrev pub mostLinked : ℕ
 mostLinked = 1024
 
--- no key has a row yet
+-- no row is linked yet
 abbrev pub Unlinked : List ℕ → Type 0
-Unlinked links = (x : ℕ) → getD links (mostLinked + x) 0 ≡ 0
-
-abbrev pub Keyless : List ℕ → Type 0
-Keyless last = (x : ℕ) → getD last x 0 ≡ 0
+Unlinked links = (i : ℕ) → getD links i 0 ≡ 0
 
 -- row k comes, with the key x
-abbrev pub linkedTo : List ℕ → ℕ → ℕ → List ℕ
-linkedTo links x k = set (set links k (getD links (mostLinked + x) 0)) (mostLinked + x) (k + 1)
+abbrev pub rowLinked : List ℕ → ℕ → ℕ → List ℕ
+rowLinked links x k = set (set links k (getD links (mostLinked + x) 0)) (mostLinked + x) (k + 1)
 
 -- n rows are linked, by so many keys
 pub record Linked (key : ℕ → ℕ) (keys n : ℕ) (links : List ℕ) : Type 0 where

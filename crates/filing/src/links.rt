@@ -6,7 +6,7 @@
 ghost use mathlib.Core.Path.{_≡_};
 ghost use Prim.Native.Nat.{_+_, _*_, _≤_, _<_};
 ghost use lib.ListN.{length};
-ghost use Rattle.filing.specs.Links.{mostLinked, Unlinked, linkedTo, Linked, unitKeys, scheduleKeys, byUnit, bySchedule, unitKey, scheduleKey};
+ghost use Rattle.filing.specs.Links.{mostLinked, Unlinked, rowLinked, Linked, unitKeys, scheduleKeys, byUnit, bySchedule, unitKey, scheduleKey};
 use crate::schedules::SCHEDULE;
 use crate::schedules::UNIT;
 use crate::schedules::cell;
@@ -64,7 +64,7 @@ pub fn link_schedules(cells: &[u64], n: usize, links: &mut [usize])
 fn link(links: &mut [usize], key: usize, k: usize)
     requires { ⌜ k < mostLinked ⌝ }
     requires { ⌜ mostLinked + key < length (now links) ⌝ }
-    ensures { λ _. ⌜ now (links .exit) ≡ linkedTo (now (links .entry)) key k ⌝ }
+    ensures { λ _. ⌜ now (links .exit) ≡ rowLinked (now (links .entry)) key k ⌝ }
 {
     links[k] = links[ROWS + key];
     links[ROWS + key] = k + 1;

@@ -41,7 +41,7 @@ pub fn schedules_at_odds(cells: &[u64], n: usize, by_unit: &[usize], by_schedule
 }
 
 // Whether row `k` is at odds with one before it. Only an M row can be so with one of another
-// schedule, of which its unit then has no more than hours in a day.
+// schedule, and a unit has no more M rows than hours in a day before one is at odds.
 fn at_odds_before(cells: &[u64], k: usize, by_unit: &[usize], by_schedule: &[usize]) -> bool
     requires { ⌜ k * 9 + 9 ≤ length (now cells) ⌝ }
     requires { ⌜ LinkedTo (unitKey (now cells)) k (now «by_unit») ⌝ }

@@ -11,6 +11,7 @@ ghost use Rattle.filing.specs.Links.{Linked, LinkedTo, unitKeys, unitKey
 ghost use Rattle.filing.specs.Schedules.{strange as Schedules·strange, unscheduled as Schedules·unscheduled};
 use crate::links::ROWS;
 use crate::links::unit_key;
+use crate::numbers::contains;
 
 // The cells of a row, and where in it the columns stand.
 pub const WIDTH: usize = 9;
@@ -67,7 +68,7 @@ fn is_known(cells: &[u64], k: usize, by_unit: &[usize], units: &[u64], count: us
             return true;
         }
     }
-    is_listed(unit, units, count)
+    contains(units, count, unit)
 }
 
 // 8: the lowest of the first `count` units that has no row, where the units rise.
@@ -117,19 +118,4 @@ pub fn cell(cells: &[u64], row: usize, column: usize) -> u64
     ensures { λ r. ⌜ r ≡ getD (now (cells .entry)) (row * 9 + column) 0 ⌝ }
 {
     cells[row * WIDTH + column]
-}
-
-// Whether a number is among the first `count` of some.
-fn is_listed(number: u64, numbers: &[u64], count: usize) -> bool
-    requires { ⌜ count ≤ length (now numbers) ⌝ }
-    ensures { λ r. ⌜ r ≡ among number (take count (now (numbers .entry))) ⌝ }
-{
-    let mut i = 0;
-    while i < count {
-        if numbers[i] == number {
-            return true;
-        }
-        i += 1;
-    }
-    false
 }

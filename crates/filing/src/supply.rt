@@ -7,7 +7,7 @@ ghost use Prim.Native.Nat.{_+_, _*_, _≤_, _<_};
 ghost use lib.ListN.{length};
 ghost use Rattle.base.specs.Search.{any};
 ghost use Rattle.tables.specs.Rows.{supplyRows};
-ghost use Rattle.filing.specs.Links.{lastSame, Keyless, unitKeys};
+ghost use Rattle.filing.specs.Links.{lastSame, Unlinked, unitKeys};
 ghost use Rattle.filing.specs.Supply.{mostUnits, mostSuppliers, supplyOdds, supplyAtOdds};
 ghost use Rattle.filing.specs.SupplyPromises.{Counted, tooMany, rowAt, earlier, AgreeBefore, supplyKey};
 use crate::links::unit_key;
@@ -89,7 +89,7 @@ pub fn supply_at_odds(cells: &[u64], n: usize) -> usize
 fn first_at_odds(cells: &[u64], n: usize, last: &mut [usize]) -> usize
     requires { ⌜ n * 5 ≤ length (now cells) ⌝ }
     requires { ⌜ unitKeys ≤ length (now last) ⌝ }
-    requires { ⌜ Keyless (now last) ⌝ }
+    requires { ⌜ Unlinked (now last) ⌝ }
     ensures { λ r. ⌜ r ≡ Option·getD (supplyAtOdds (supplyRows n (now (cells .entry)))) 0 ⌝ }
 {
     let mut k = 0;

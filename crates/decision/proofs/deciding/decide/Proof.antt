@@ -1,5 +1,4 @@
 -- The market first, then the units, by schedule rows that are linked by unit. Assumes nothing.
-use Prim.Native.Nat.{ℕ, _+_}
 use mathlib.Core.Path.{refl}
 use Rattle.filing.proofs.LinkLaws.{unlinked}
 use native.Mathlib.Omega.{arith}
@@ -20,7 +19,7 @@ slice-aggregate-link-units : tie.Need-slice-aggregate-link-units
 slice-aggregate-link-units c = refl
 
 link-units-requires : tie.Need-link-units-requires
-link-units-requires c κs = let rows = c .before .before .before .before .before .before .before .before .before .before .before .before .pre .1 .0 in (rows .few, (rows .room, (omega arith, λ (x : ℕ). unlinked 2048 (1024 + x))))
+link-units-requires c κs = let rows = c .before .before .before .before .before .before .before .before .before .before .before .before .pre .1 .0 in (rows .few, (rows .room, (omega arith, unlinked 2048)))
 
 slice-aggregate-decide-units : tie.Need-slice-aggregate-decide-units
 slice-aggregate-decide-units c = search needs

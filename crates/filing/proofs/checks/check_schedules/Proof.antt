@@ -1,5 +1,4 @@
 -- Schedule rows linked, then checked. Assumes nothing.
-use Prim.Native.Nat.{ℕ, _+_}
 use native.Mathlib.Omega.{arith}
 use Rattle.filing.proofs.LinkLaws.{unlinked}
 use borrow.Author.Needs.{needs}
@@ -10,13 +9,13 @@ slice-aggregate-link-units : tie.Need-slice-aggregate-link-units
 slice-aggregate-link-units c = search needs
 
 link-units-requires : tie.Need-link-units-requires
-link-units-requires c κs = let pre = c .before .before .before .pre in (pre .0, (pre .1 .0, (omega arith, λ (x : ℕ). unlinked 2048 (1024 + x))))
+link-units-requires c κs = let pre = c .before .before .before .pre in (pre .0, (pre .1 .0, (omega arith, unlinked 2048)))
 
 slice-aggregate-link-schedules : tie.Need-slice-aggregate-link-schedules
 slice-aggregate-link-schedules c = search needs
 
 link-schedules-requires : tie.Need-link-schedules-requires
-link-schedules-requires c κs = let pre = c .before .before .before .before .before .before .pre in (pre .0, (pre .1 .0, (omega arith, λ (x : ℕ). unlinked 3063 (1024 + x))))
+link-schedules-requires c κs = let pre = c .before .before .before .before .before .before .pre in (pre .0, (pre .1 .0, (omega arith, unlinked 3063)))
 
 slice-aggregate-check-linked : tie.Need-slice-aggregate-check-linked
 slice-aggregate-check-linked c = search needs

@@ -1,6 +1,4 @@
 -- The unit's rows, from the last of its key on. Assumes nothing.
-use mathlib.Core.Path.{_∙_}
-use Rattle.filing.specs.Links.{unitKey}
 use Rattle.filing.proofs.LinkLaws.{key-upto, leads-key}
 use Rattle.filing.proofs.GatherLaws.{gathered-all}
 use native.Mathlib.Omega.{arith}

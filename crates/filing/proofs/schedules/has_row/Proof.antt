@@ -1,7 +1,6 @@
 -- Whether a unit has a row, along the rows of its key. Assumes nothing.
 use Prim.Native.Nat.{ℕ}
 use mathlib.Core.Path.{sym, _∙_}
-use lib.Dec.{eqb}
 use borrow.Author.Tests.{eq-eqb, ne-eqb}
 use Rattle.tables.proofs.RowViews.{scheduleAt}
 use Rattle.filing.specs.Answers.{isOf}

@@ -24,11 +24,11 @@ cell-requires-2 c κs = omega (arith, linked-upto (c .before .before .before .be
 returns : tie.Need-returns
 returns c = let a = c .before .before .before .before .before .before .before .before .args in repeats-known _ (a .cells .now) (a .k) (a .by-unit .now) (c .before .before .before .before .before .before .before .before .pre .1 .0) (c .before .before .before .before .before .before .before .before .pre .1 .1 .1) (omega arith) (omega arith)
 
-is-listed-requires : tie.Need-is-listed-requires
-is-listed-requires c κs = search needs
+contains-requires : tie.Need-contains-requires
+contains-requires c κs = search needs
 
 returns-2 : tie.Need-returns-2
-returns-2 c = c .is-listed .ensures ∙ rw (c .before .before .before .cell .ensures)
+returns-2 c = c .contains .ensures ∙ rw (c .before .before .before .cell .ensures)
 
 pub is-known-spec : {M : Type 1} → statement M
 is-known-spec =
@@ -40,5 +40,5 @@ is-known-spec =
     sub-cell
     cell-requires-2
     returns
-    is-listed-requires
+    contains-requires
     returns-2)

@@ -1,5 +1,4 @@
 -- No key has a row yet. Assumes nothing.
-use Prim.Native.Nat.{ℕ}
 use Rattle.filing.proofs.LinkLaws.{unlinked}
 use native.Mathlib.Omega.{arith}
 use borrow.Author.Needs.{needs}
@@ -10,7 +9,7 @@ slice-aggregate-first-at-odds : tie.Need-slice-aggregate-first-at-odds
 slice-aggregate-first-at-odds c = search needs
 
 first-at-odds-requires : tie.Need-first-at-odds-requires
-first-at-odds-requires c κs = (c .before .before .pre, (omega arith, λ (x : ℕ). unlinked 1024 x))
+first-at-odds-requires c κs = (c .before .before .pre, (omega arith, unlinked 1024))
 
 returns : tie.Need-returns
 returns c = c .before .first-at-odds .ensures

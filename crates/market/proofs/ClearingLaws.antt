@@ -13,7 +13,7 @@ use borrow.Author.Tests.{le-leb, leb-true, lt-ltb, le-ltb, ltb-true, ltb-false}
 use Rattle.base.proofs.Tests.{false-true, lt-or-ge, and-fst, and-snd}
 use Rattle.base.proofs.Members.{Lowest, lowest, Finds, it, nothing, finds, member-at}
 use Rattle.tables.specs.Rows.{SupplyRow}
-use Rattle.market.specs.Supply.{absDfax, eligible, supplyOf, atMost, below}
+use Rattle.market.specs.Supply.{absDfax, eligible, supply, supplyOf, atMost, below}
 use Rattle.market.specs.Clearing.{
   eligibleSupply,
   short,
@@ -27,6 +27,7 @@ use Rattle.market.specs.Clearing.{
   clearingRow,
 }
 use Rattle.market.proofs.SupplyLaws.{
+  supply-within,
   supply-mono,
   supply-none,
   AtMost,
@@ -36,6 +37,7 @@ use Rattle.market.proofs.SupplyLaws.{
   below-or-above,
   one-way,
   through,
+  through-supply,
 }
 
 -- what the tests on a row say
@@ -44,29 +46,43 @@ module _ (cutoff : ℕ) (q r : SupplyRow) where
   unfolding eligible
   eligible-is e = leb-true cutoff (absDfax r) e
 
-  up-to : eligible cutoff r ≡ true → AtMost r q → eligibleUpTo cutoff q r ≡ true
+  pub up-to : eligible cutoff r ≡ true → AtMost r q → eligibleUpTo cutoff q r ≡ true
   unfolding eligibleUpTo
   up-to e h = simp (e, at-most r q h)
 
-  up-to-eligible : eligibleUpTo cutoff q r ≡ true → eligible cutoff r ≡ true
+  pub up-to-eligible : eligibleUpTo cutoff q r ≡ true → eligible cutoff r ≡ true
   unfolding eligibleUpTo
   up-to-eligible e = and-fst (eligible cutoff r) (atMost q r) e
 
-  up-to-most : eligibleUpTo cutoff q r ≡ true → AtMost r q
+  pub up-to-most : eligibleUpTo cutoff q r ≡ true → AtMost r q
   unfolding eligibleUpTo
   up-to-most e = at-most-true r q (and-snd (eligible cutoff r) (atMost q r) e)
 
-  below-both : eligible cutoff r ≡ true → below q r ≡ true → eligibleBelow cutoff q r ≡ true
+  pub below-both : eligible cutoff r ≡ true → below q r ≡ true → eligibleBelow cutoff q r ≡ true
   unfolding eligibleBelow
   below-both e f = simp (e, f)
 
-  below-eligible : eligibleBelow cutoff q r ≡ true → eligible cutoff r ≡ true
+  pub below-eligible : eligibleBelow cutoff q r ≡ true → eligible cutoff r ≡ true
   unfolding eligibleBelow
   below-eligible e = and-fst (eligible cutoff r) (below q r) e
 
-  below-strictly : eligibleBelow cutoff q r ≡ true → below q r ≡ true
+  pub below-strictly : eligibleBelow cutoff q r ≡ true → below q r ≡ true
   unfolding eligibleBelow
   below-strictly e = and-snd (eligible cutoff r) (below q r) e
+
+-- what the rows at or below the cost of a row supply is supplied below the cost of a row that is dearer
+pub dearer :
+    (cutoff : ℕ) (rows : List SupplyRow) (q s : SupplyRow) → below s q ≡ true →
+    supplyOf (eligibleUpTo cutoff q) rows ≤ supplyOf (eligibleBelow cutoff s) rows
+dearer cutoff rows q s b = supply-within (eligibleUpTo cutoff q) (eligibleBelow cutoff s) rows each
+  where
+    each :
+        (r : SupplyRow) → List·Memᴰ r rows → 0 < supply r → eligibleUpTo cutoff q r ≡ true → eligibleBelow cutoff s r ≡ true
+    each r m pos e =
+        ⊎-elim
+        (below-both cutoff s r (up-to-eligible cutoff q r e))
+        (λ h. absurd (not-below q s (through-supply s r q pos h (up-to-most cutoff q r e)) b))
+        (below-or-above r s)
 
 module _ (cutoff need : ℕ) (rows : List SupplyRow) (q : SupplyRow) where
   -- the test decides what the paper says
@@ -97,25 +113,11 @@ module _ (cutoff need : ℕ) (rows : List SupplyRow) (positive : 0 < cutoff) whe
   through-eligible : (r s q : SupplyRow) → eligible cutoff s ≡ true → AtMost r s → AtMost s q → AtMost r q
   through-eligible r s q e = through r s q (omega (arith, eligible-is cutoff s s e))
 
-  -- a row's supply at or below a clearing row's cost is below the cost of a row that is dearer
-  dearer :
-      (q s : SupplyRow) → below s q ≡ true →
-      supplyOf (eligibleUpTo cutoff q) rows ≤ supplyOf (eligibleBelow cutoff s) rows
-  dearer q s b = supply-mono (eligibleUpTo cutoff q) (eligibleBelow cutoff s) rows each
-    where
-      each : (r : SupplyRow) → List·Memᴰ r rows → eligibleUpTo cutoff q r ≡ true → eligibleBelow cutoff s r ≡ true
-      each r m e =
-          let f = up-to-eligible cutoff q r e in
-          ⊎-elim
-          (below-both cutoff s r f)
-          (λ h. absurd (not-below q s (through-eligible s r q f h (up-to-most cutoff q r e)) b))
-          (below-or-above r s)
-
   -- all clearing rows have one cost
   pub clears-once : (q s : SupplyRow) → Clears cutoff need rows q → Clears cutoff need rows s → atMost q s ≡ true
   clears-once q s c d =
       ⊎-elim
-      (λ b. absurd (omega (arith, c .enough, d .less, dearer q s b)))
+      (λ b. absurd (omega (arith, c .enough, d .less, dearer cutoff rows q s b)))
       (at-most s q)
       (below-or-above q s)
 

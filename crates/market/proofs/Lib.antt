@@ -3,6 +3,7 @@ pub mod ClearingLaws
 pub mod DistinctLaws
 pub mod LeastOverRows
 pub mod ListingLaws
+pub mod NarrowingLaws
 pub mod PartLaws
 pub mod PartyLaws
 pub mod RangeLaws

@@ -12,22 +12,27 @@ use Rattle.base.proofs.Tests.{false-true, lt-or-ge}
 use Rattle.tables.specs.Rows.{SupplyRow}
 use Rattle.market.specs.Supply.{absDfax, supply, supplyOf, offer, costBeside, atMost, below}
 
--- a supply that counts where a test passes, where another does only if the first does
-part-le : (s : ℕ) (t u : Bool) → (t ≡ true → u ≡ true) → cond t s 0 ≤ cond u s 0
+-- a supply that counts where a test passes, where another does if the first does and there is a supply
+part-le : (s : ℕ) (t u : Bool) → (0 < s → t ≡ true → u ≡ true) → cond t s 0 ≤ cond u s 0
 part-le s true true h = omega arith
-part-le s true false h = false-true (h refl)
+part-le s true false h = ⊎-elim (λ pos. false-true (h pos refl)) (λ none. none) (lt-or-ge 0 s)
 part-le s false true h = omega arith
 part-le s false false h = omega arith
 
 module _ (p q : SupplyRow → Bool) where
-  -- rows that pass p supply no more than rows that pass q, where whatever passes p passes q
+  -- rows that pass p supply no more than rows that pass q, where whatever passes p and supplies something passes q
+  pub supply-within :
+      (rows : List SupplyRow) → ((r : SupplyRow) → List·Memᴰ r rows → 0 < supply r → p r ≡ true → q r ≡ true) →
+      supplyOf p rows ≤ supplyOf q rows
+  unfolding supplyOf
+  supply-within [] h = omega arith
+  supply-within (r ∷ rows) h =
+      omega (arith, part-le (supply r) (p r) (q r) (h r (List·Memᴰ·head refl)), supply-within rows (λ x m. h x (List·Memᴰ·tail m)))
+
   pub supply-mono :
       (rows : List SupplyRow) → ((r : SupplyRow) → List·Memᴰ r rows → p r ≡ true → q r ≡ true) →
       supplyOf p rows ≤ supplyOf q rows
-  unfolding supplyOf
-  supply-mono [] h = omega arith
-  supply-mono (r ∷ rows) h =
-      omega (arith, part-le (supply r) (p r) (q r) (h r (List·Memᴰ·head refl)), supply-mono rows (λ x m. h x (List·Memᴰ·tail m)))
+  supply-mono rows h = supply-within rows (λ r m _. h r m)
 
   -- and the same, where the tests are the same of each row
   pub supply-same :
@@ -85,3 +90,14 @@ crossed a b c x y z pos h k =
 pub through : (r s q : SupplyRow) → 0 < absDfax s → AtMost r s → AtMost s q → AtMost r q
 unfolding AtMost costBeside
 through r s q pos h k = crossed (offer r) (offer s) (offer q) (absDfax r) (absDfax s) (absDfax q) pos h k
+
+-- and so through any row that supplies something
+supplies : (r : SupplyRow) → 0 < supply r → 0 < absDfax r
+unfolding supply
+supplies r pos = ⊎-elim (λ h. h) (λ none. absurd (nothing (omega arith))) (lt-or-ge 0 (absDfax r))
+  where
+    nothing : absDfax r ≡ 0 → ⊥
+    nothing e = let z : 0 < r .mw * 0 = rw e at pos in omega arith
+
+pub through-supply : (r s q : SupplyRow) → 0 < supply s → AtMost r s → AtMost s q → AtMost r q
+through-supply r s q pos = through r s q (supplies s pos)

@@ -1,72 +1,71 @@
--- Laws of trying rows in file order until one clears, over plain lists. Assumes nothing.
+-- Laws of trying rows in file order until one passes a test, over plain lists. Assumes nothing.
 use Prim.Native.Nat.{ℕ, suc, _+_, _≤_, _<_}
 use mathlib.Core.Path.{_≡_, refl, sym, _∙_}
-use mathlib.Core.Bool.{true, false, and-false}
-use mathlib.Core.List.{List}
+use mathlib.Core.Bool.{Bool, true, false}
+use mathlib.Core.List.{List, [], _∷_}
+use mathlib.Core.Option.{none, Option·getD}
 use native.Mathlib.Omega.{arith}
 use native.Mathlib.Numerals.{add-one}
-use lib.Dec.{ltb}
-use lib.ListN.{drop}
-use borrow.Author.Tests.{le-leb, lt-leb}
+use lib.ListN.{length, drop}
 use Rattle.base.specs.Search.{first}
 use Rattle.base.proofs.Searches.{first-none, first-here, first-later}
 use Rattle.tables.specs.Rows.{SupplyRow, supplyRows}
 use Rattle.tables.proofs.RowViews.{supply-length}
-use Rattle.market.specs.Supply.{eligible, supplyOf}
-use Rattle.market.specs.Clearing.{eligibleUpTo, eligibleBelow, clears, clearing}
+use Rattle.market.specs.Clearing.{clears, clearing}
+use Rattle.market.specs.Narrowing.{eligibleAt, firstAt}
 use Rattle.market.specs.Ranges.{cellsRow}
 use Rattle.market.proofs.CellLaws.{rows-next, rows-end}
 
--- a try, by what it looks at
-module _ (cutoff need : ℕ) (rows : List SupplyRow) (q : SupplyRow) where
-  pub try-ineligible : eligible cutoff q ≡ false → false ≡ clears cutoff need rows q
-  unfolding clears
-  try-ineligible e = simp e
-
-  pub try-short : (up : ℕ) → up ≡ supplyOf (eligibleUpTo cutoff q) rows → up < need → false ≡ clears cutoff need rows q
-  unfolding clears
-  try-short up e h = simp (lt-leb need (supplyOf (eligibleUpTo cutoff q) rows) (omega arith), and-false)
-
-  pub try-rest :
-      (up under : ℕ) → eligible cutoff q ≡ true → up ≡ supplyOf (eligibleUpTo cutoff q) rows → need ≤ up →
-      under ≡ supplyOf (eligibleBelow cutoff q) rows → ltb under need ≡ clears cutoff need rows q
-  unfolding clears
-  try-rest up under e f h g = simp (e, le-leb need (supplyOf (eligibleUpTo cutoff q) rows) (omega arith), g)
-
--- of n rows the first i have been tried, and none of them clears
-pub record Trying (n : ℕ) (cells : List ℕ) (cutoff need i : ℕ) : Type 0 where
+-- of n rows the first i have been tried, and none of them passes
+pub record Trying (n : ℕ) (cells : List ℕ) (p : SupplyRow → Bool) (i : ℕ) : Type 0 where
   pub upto : i ≤ n
-  pub not-yet :
-      first (clears cutoff need (supplyRows n cells)) 0 (supplyRows n cells)
-      ≡ first (clears cutoff need (supplyRows n cells)) i (drop i (supplyRows n cells))
+  pub not-yet : first p 0 (supplyRows n cells) ≡ first p i (drop i (supplyRows n cells))
 
-module _ (n : ℕ) (cells : List ℕ) (cutoff need : ℕ) where
-  pub trying-none : Trying n cells cutoff need 0
+module _ (n : ℕ) (cells : List ℕ) (p : SupplyRow → Bool) where
+  pub trying-none : Trying n cells p 0
   trying-none = record { upto = omega arith; not-yet = refl }
 
-  module _ (i : ℕ) (l : Trying n cells cutoff need i) where
-    pub trying-next :
-        i < n → clears cutoff need (supplyRows n cells) (cellsRow cells i) ≡ false → Trying n cells cutoff need (i + 1)
+  module _ (i : ℕ) (l : Trying n cells p i) where
+    pub trying-next : i < n → p (cellsRow cells i) ≡ false → Trying n cells p (i + 1)
     trying-next h e =
         record {
           upto = omega arith;
           not-yet =
               l .not-yet
-              ∙ rw (rows-next n cells i h, add-one)
-              (first-later (clears cutoff need (supplyRows n cells)) i (cellsRow cells i) (drop (suc i) (supplyRows n cells)) e);
+              ∙ rw (rows-next n cells i h, add-one) (first-later p i (cellsRow cells i) (drop (suc i) (supplyRows n cells)) e);
         }
 
     pub trying-here :
-        i < n → clears cutoff need (supplyRows n cells) (cellsRow cells i) ≡ true → i ≡ clearing cutoff need (supplyRows n cells)
-    unfolding clearing
+        i < n → p (cellsRow cells i) ≡ true → i ≡ Option·getD (first p 0 (supplyRows n cells)) (length (supplyRows n cells))
     trying-here h e =
-        rw (
-          l .not-yet,
-          rows-next n cells i h,
-          first-here (clears cutoff need (supplyRows n cells)) i (cellsRow cells i) (drop (i + 1) (supplyRows n cells)) e,
-        )
+        rw (l .not-yet, rows-next n cells i h, first-here p i (cellsRow cells i) (drop (i + 1) (supplyRows n cells)) e)
 
-    pub trying-over : n ≤ i → n ≡ clearing cutoff need (supplyRows n cells)
-    unfolding clearing
-    trying-over h =
-        rw (l .not-yet, rows-end n cells i h, first-none (clears cutoff need (supplyRows n cells)) i) (sym (supply-length n cells))
+    pub trying-over : n ≤ i → n ≡ Option·getD (first p 0 (supplyRows n cells)) (length (supplyRows n cells))
+    trying-over h = rw (l .not-yet, rows-end n cells i h, first-none p i) (sym (supply-length n cells))
+
+-- tests that agree find the same, and a test that nothing passes finds nothing
+first-agree :
+    (p q : SupplyRow → Bool) → ((r : SupplyRow) → p r ≡ q r) → (k : ℕ) (rows : List SupplyRow) → first p k rows ≡ first q k rows
+unfolding first
+first-agree p q h k [] = refl
+first-agree p q h k (r ∷ rows) = rw (h r, first-agree p q h (suc k) rows)
+
+first-nothing :
+    (p : SupplyRow → Bool) → ((r : SupplyRow) → p r ≡ false) → (k : ℕ) (rows : List SupplyRow) → first p k rows ≡ none
+unfolding first
+first-nothing p h k [] = refl
+first-nothing p h k (r ∷ rows) = rw (h r) (first-nothing p h (suc k) rows)
+
+module _ (cutoff need n : ℕ) (cells : List ℕ) where
+  -- the first of the rows of the clearing cost is the clearing row
+  pub first-clears :
+      (q : SupplyRow) → ((r : SupplyRow) → clears cutoff need (supplyRows n cells) r ≡ eligibleAt cutoff q r) →
+      firstAt cutoff q (supplyRows n cells) ≡ clearing cutoff need (supplyRows n cells)
+  unfolding firstAt clearing
+  first-clears q h = rw (first-agree (clears cutoff need (supplyRows n cells)) (eligibleAt cutoff q) h 0 (supplyRows n cells))
+
+  pub none-clears :
+      ((r : SupplyRow) → clears cutoff need (supplyRows n cells) r ≡ false) → n ≡ clearing cutoff need (supplyRows n cells)
+  unfolding clearing
+  none-clears h =
+      rw (first-nothing (clears cutoff need (supplyRows n cells)) h 0 (supplyRows n cells)) (sym (supply-length n cells))

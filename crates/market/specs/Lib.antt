@@ -1,4 +1,5 @@
 pub mod Clearing
+pub mod Narrowing
 pub mod Offer
 pub mod Parties
 pub mod Parts

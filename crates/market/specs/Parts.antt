@@ -4,9 +4,9 @@ use mathlib.Core.Bool.{Bool}
 use mathlib.Core.List.{List}
 use Rattle.tables.specs.Rows.{SupplyRow}
 use Rattle.market.specs.declared.parts.Part.{Part}
-use Rattle.market.specs.declared.parts.Part.the-variants.{Eligible, UpTo, Below, RelevantOf}
+use Rattle.market.specs.declared.parts.Part.the-variants.{Eligible, UpTo, RelevantOf}
 use Rattle.market.specs.Supply.{eligible}
-use Rattle.market.specs.Clearing.{eligibleUpTo, eligibleBelow}
+use Rattle.market.specs.Clearing.{eligibleUpTo}
 use Rattle.market.specs.Parties.{relevantOf}
 use Rattle.market.specs.Ranges.{RowCells, cellsRow}
 
@@ -14,12 +14,10 @@ use Rattle.market.specs.Ranges.{RowCells, cellsRow}
 unfoldable pub inPart : List ℕ → ℕ → Part → SupplyRow → Bool
 inPart cells cutoff Eligible = eligible cutoff
 inPart cells cutoff (UpTo q) = eligibleUpTo cutoff (cellsRow cells q)
-inPart cells cutoff (Below q) = eligibleBelow cutoff (cellsRow cells q)
 inPart cells cutoff (RelevantOf q k) = relevantOf cutoff (cellsRow cells q) k
 
 -- the row that a part names stands in the cells
 abbrev pub PartCells : List ℕ → Part → Type 0
 PartCells cells Eligible = Unit {0}
 PartCells cells (UpTo q) = RowCells cells q
-PartCells cells (Below q) = RowCells cells q
 PartCells cells (RelevantOf q k) = RowCells cells q

@@ -1,11 +1,14 @@
-// Eligible supply, the need, and the search for the clearing row: rows are tried in file order.
+// Eligible supply, the need, and the clearing row: the first of the rows of the clearing cost.
 ghost use mathlib.Core.Path.{_≡_};
 ghost use Prim.Native.Nat.{_≤_, _<_};
 ghost use Rattle.tables.specs.Rows.{supplyRows};
-ghost use Rattle.market.specs.Ranges.{SupplyCells, cellsRow, mostRelief};
-ghost use Rattle.market.specs.Clearing.{eligibleSupply, needOf, clears as Clearing·clears, clearing};
+ghost use Rattle.market.specs.Ranges.{RowCells, SupplyCells, cellsRow, mostRelief};
+ghost use Rattle.market.specs.Clearing.{eligibleSupply, needOf, clearing};
+ghost use Rattle.market.specs.Narrowing.{eligibleAt, firstAt};
+use crate::narrowing::clearing_cost;
 use crate::parts::Part;
 use crate::parts::supply_of;
+use crate::rows::cost_beside;
 use crate::rows::is_eligible;
 
 // A dfax of 1, in ten-thousandths.
@@ -26,14 +29,31 @@ pub fn need_of(relief: u64) -> u64
     relief * WHOLE_DFAX
 }
 
-// The place of the first of the first `n` rows that clears, or `n` where none does.
+// The place of the first of the first `n` rows that clears, or `n` where none does: no supply is
+// below a need of 0.
 pub fn clearing_row(cells: &[u64], n: usize, cutoff: u64, need: u64) -> usize
     requires { ⌜ SupplyCells n (now cells) ⌝ }
     ensures { λ r. ⌜ r ≡ clearing cutoff need (supplyRows n (now (cells .entry))) ⌝ }
 {
+    if need == 0 {
+        return n;
+    }
+    let row = clearing_cost(cells, n, cutoff, need);
+    if n <= row {
+        return n;
+    }
+    first_at(cells, n, cutoff, row)
+}
+
+// The place of the first eligible row of the cost of the row at `limit`.
+fn first_at(cells: &[u64], n: usize, cutoff: u64, limit: usize) -> usize
+    requires { ⌜ SupplyCells n (now cells) ⌝ }
+    requires { ⌜ limit < n ⌝ }
+    ensures { λ r. ⌜ r ≡ firstAt cutoff (cellsRow (now (cells .entry)) limit) (supplyRows n (now (cells .entry))) ⌝ }
+{
     let mut row = 0;
     while row < n {
-        if clears(cells, n, cutoff, need, row) {
+        if is_at(cells, row, limit, cutoff) {
             return row;
         }
         row += 1;
@@ -41,15 +61,13 @@ pub fn clearing_row(cells: &[u64], n: usize, cutoff: u64, need: u64) -> usize
     n
 }
 
-fn clears(cells: &[u64], n: usize, cutoff: u64, need: u64, row: usize) -> bool
-    requires { ⌜ SupplyCells n (now cells) ⌝ }
-    requires { ⌜ row < n ⌝ }
-    ensures { λ r. ⌜ r ≡ Clearing·clears cutoff need (supplyRows n (now (cells .entry))) (cellsRow (now (cells .entry)) row) ⌝ }
+fn is_at(cells: &[u64], row: usize, limit: usize, cutoff: u64) -> bool
+    requires { ⌜ RowCells (now cells) row ⌝ }
+    requires { ⌜ RowCells (now cells) limit ⌝ }
+    ensures { λ r. ⌜ r ≡ eligibleAt cutoff (cellsRow (now (cells .entry)) limit) (cellsRow (now (cells .entry)) row) ⌝ }
 {
     if is_eligible(cells, row, cutoff) {
-        if need <= supply_of(cells, n, cutoff, Part::UpTo(row)) {
-            return supply_of(cells, n, cutoff, Part::Below(row)) < need;
-        }
+        return cost_beside(cells, limit, row) == cost_beside(cells, row, limit);
     }
     false
 }

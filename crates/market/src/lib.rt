@@ -2,6 +2,7 @@
 // clearing row, the relevant market and the amounts by supplier. Rows are lent as cells, which
 // their readers know to be within the table's ranges.
 mod clearing;
+mod narrowing;
 mod offer;
 mod parties;
 mod parts;

@@ -5,7 +5,7 @@ ghost use mathlib.Core.Bool.{cond};
 ghost use Rattle.tables.specs.Rows.{supplyRows};
 ghost use Rattle.market.specs.Ranges.{RowCells, SupplyCells, cellsRow};
 ghost use Rattle.market.specs.Supply.{supply, supplyOf};
-ghost use Rattle.market.specs.Clearing.{eligibleUpTo, eligibleBelow};
+ghost use Rattle.market.specs.Clearing.{eligibleUpTo};
 ghost use Rattle.market.specs.Parties.{relevantOf};
 ghost use Rattle.market.specs.Parts.{PartCells, inPart};
 use crate::relevant::is_relevant;
@@ -14,12 +14,11 @@ use crate::rows::effective_supply;
 use crate::rows::is_eligible;
 use crate::rows::party;
 
-// The eligible rows; those at or below the cost of the row at a place; those strictly below it; and
-// the relevant ones of a party, where the row at a place clears.
+// The eligible rows; those at or below the cost of the row at a place; and the relevant ones of a
+// party, where the row at a place clears.
 pub enum Part {
     Eligible,
     UpTo(usize),
-    Below(usize),
     RelevantOf(usize, u64),
 }
 
@@ -58,7 +57,6 @@ fn is_in(cells: &[u64], row: usize, cutoff: u64, part: Part) -> bool
     match part {
         Part::Eligible => is_eligible(cells, row, cutoff),
         Part::UpTo(limit) => is_up_to(cells, row, limit, cutoff),
-        Part::Below(limit) => is_below(cells, row, limit, cutoff),
         Part::RelevantOf(clearing, party) => is_relevant_of(cells, row, clearing, cutoff, party),
     }
 }
@@ -74,24 +72,14 @@ fn is_up_to(cells: &[u64], row: usize, limit: usize, cutoff: u64) -> bool
     false
 }
 
-fn is_below(cells: &[u64], row: usize, limit: usize, cutoff: u64) -> bool
-    requires { ⌜ RowCells (now cells) row ⌝ }
-    requires { ⌜ RowCells (now cells) limit ⌝ }
-    ensures { λ r. ⌜ r ≡ eligibleBelow cutoff (cellsRow (now (cells .entry)) limit) (cellsRow (now (cells .entry)) row) ⌝ }
-{
-    if is_eligible(cells, row, cutoff) {
-        return cost_beside(cells, limit, row) < cost_beside(cells, row, limit);
-    }
-    false
-}
-
+// The party is asked first, since few rows are of one.
 fn is_relevant_of(cells: &[u64], row: usize, clearing: usize, cutoff: u64, k: u64) -> bool
     requires { ⌜ RowCells (now cells) row ⌝ }
     requires { ⌜ RowCells (now cells) clearing ⌝ }
     ensures { λ r. ⌜ r ≡ relevantOf cutoff (cellsRow (now (cells .entry)) clearing) k (cellsRow (now (cells .entry)) row) ⌝ }
 {
-    if is_relevant(cells, row, clearing, cutoff) {
-        return party(cells, row) == k;
+    if party(cells, row) == k {
+        return is_relevant(cells, row, clearing, cutoff);
     }
     false
 }

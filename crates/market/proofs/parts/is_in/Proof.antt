@@ -20,16 +20,9 @@ is-up-to-requires c κs = let start = c .before .before .before .before in
 enum-known-part-2 : tie.Need-enum-known-part-2
 enum-known-part-2 c = search needs
 
-is-below-requires : tie.Need-is-below-requires
-is-below-requires c κs = let start = c .before .before .before .before in
-    (start .pre .0, rw (c .before .part2 .given .1) at (start .pre .1))
-
-enum-known-part-3 : tie.Need-enum-known-part-3
-enum-known-part-3 c = search needs
-
 is-relevant-of-requires : tie.Need-is-relevant-of-requires
 is-relevant-of-requires c κs = let start = c .before .before .before .before in
-    (start .pre .0, rw (c .before .part3 .given .1) at (start .pre .1))
+    (start .pre .0, rw (c .before .part2 .given .1) at (start .pre .1))
 
 returns : tie.Need-returns
 unfolding inPart
@@ -41,11 +34,7 @@ returns-2 c = rw (c .before .before .part .given .1) (c .is-up-to .ensures)
 
 returns-3 : tie.Need-returns-3
 unfolding inPart
-returns-3 c = rw (c .before .before .part2 .given .1) (c .is-below .ensures)
-
-returns-4 : tie.Need-returns-4
-unfolding inPart
-returns-4 c = rw (c .before .before .part3 .given .1) (c .is-relevant-of .ensures)
+returns-3 c = rw (c .before .before .part2 .given .1) (c .is-relevant-of .ensures)
 
 pub is-in-spec : {M : Type 1} → statement M
 is-in-spec =
@@ -56,10 +45,7 @@ is-in-spec =
     enum-known-part
     is-up-to-requires
     enum-known-part-2
-    is-below-requires
-    enum-known-part-3
     is-relevant-of-requires
     returns
     returns-2
-    returns-3
-    returns-4)
+    returns-3)

@@ -1,9 +1,8 @@
--- Whether a row is eligible and strictly below another's cost. Assumes nothing.
-use Rattle.market.specs.Supply.{below}
-use Rattle.market.specs.Clearing.{eligibleBelow}
+-- Whether a row is eligible and of another's cost. Assumes nothing.
+use Rattle.market.specs.Narrowing.{eligibleAt}
 use borrow.Author.Needs.{needs}
-use Rattle.market.proofs.parts.is_below.Statement.{statement}
-use Rattle.market.proofs.parts.is_below.Tie as tie
+use Rattle.market.proofs.clearing.is_at.Statement.{statement}
+use Rattle.market.proofs.clearing.is_at.Tie as tie
 
 is-eligible-requires : tie.Need-is-eligible-requires
 is-eligible-requires c κs = search needs
@@ -15,7 +14,7 @@ cost-beside-requires-2 : tie.Need-cost-beside-requires-2
 cost-beside-requires-2 c κs = search needs
 
 returns : tie.Need-returns
-unfolding eligibleBelow below
+unfolding eligibleAt
 returns c = simp (
   ← c .before .before .before .is-eligible .ensures,
   c .before .before .if1 .taken,
@@ -24,10 +23,10 @@ returns c = simp (
 )
 
 returns-2 : tie.Need-returns-2
-unfolding eligibleBelow
+unfolding eligibleAt
 returns-2 c = simp (← c .before .is-eligible .ensures, c .if1 .left)
 
-pub is-below-spec : {M : Type 1} → statement M
-is-below-spec =
+pub is-at-spec : {M : Type 1} → statement M
+is-at-spec =
     tie.close
     (tie.spec is-eligible-requires cost-beside-requires cost-beside-requires-2 returns returns-2)

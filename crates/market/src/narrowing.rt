@@ -1,0 +1,110 @@
+// The search for the clearing cost, which is kept between two bounds. A row between them is tried,
+// and becomes one of them; any other costs two comparisons.
+ghost use mathlib.Core.Path.{_≡_};
+ghost use Prim.Native.Nat.{_<_};
+ghost use Rattle.market.specs.Ranges.{RowCells, SupplyCells, cellsRow};
+ghost use Rattle.market.specs.Narrowing.{counts as Narrowing·counts, above, under, between, Bounding, Narrows, ClearingCost};
+use crate::parts::Part;
+use crate::parts::supply_of;
+use crate::rows::cost_beside;
+use crate::rows::effective_supply;
+use crate::rows::is_eligible;
+
+// The most rows.
+const ROWS: usize = 256;
+
+// The rows are visited by steps of this length. It has no factor in common with their number, so
+// that each is visited, and is near its golden section, so that a few visits spread evenly: rows in
+// the order of their costs are then tried a dozen times and not one after the other.
+const STRIDE: usize = 157;
+
+// Each bound is the place of a row whose cost it is; past the rows there is none.
+pub struct Bounds {
+    pub low: usize,
+    pub high: usize,
+}
+
+// The place of a row of the clearing cost, or `n` where no row clears.
+pub fn clearing_cost(cells: &[u64], n: usize, cutoff: u64, need: u64) -> usize
+    requires { ⌜ SupplyCells n (now cells) ⌝ }
+    requires { ⌜ 0 < need ⌝ }
+    ensures { λ r. ⌜ ClearingCost n (now (cells .entry)) cutoff need r ⌝ }
+{
+    let mut bounds = Bounds { low: n, high: n };
+    let mut turn = 0;
+    while turn < ROWS {
+        bounds = narrowed(cells, n, cutoff, need, bounds, turn * STRIDE % ROWS);
+        turn += 1;
+    }
+    bounds.high
+}
+
+// The bounds once the row at a place has been looked at.
+fn narrowed(cells: &[u64], n: usize, cutoff: u64, need: u64, bounds: Bounds, row: usize) -> Bounds
+    requires { ⌜ SupplyCells n (now cells) ⌝ }
+    requires { ⌜ Bounding n (now cells) cutoff need bounds ⌝ }
+    ensures { λ r. ⌜ Narrows n (now (cells .entry)) cutoff need bounds row r ⌝ }
+{
+    if n <= row {
+        return bounds;
+    }
+    if !is_between(cells, n, cutoff, bounds, row) {
+        return bounds;
+    }
+    if supply_of(cells, n, cutoff, Part::UpTo(row)) < need {
+        return Bounds {
+            low: row,
+            high: bounds.high,
+        };
+    }
+    Bounds {
+        low: bounds.low,
+        high: row,
+    }
+}
+
+// Whether the row at a place is to be tried.
+fn is_between(cells: &[u64], n: usize, cutoff: u64, bounds: Bounds, row: usize) -> bool
+    requires { ⌜ SupplyCells n (now cells) ⌝ }
+    requires { ⌜ row < n ⌝ }
+    ensures { λ r. ⌜ r ≡ between n (now (cells .entry)) cutoff bounds (cellsRow (now (cells .entry)) row) ⌝ }
+{
+    if counts(cells, row, cutoff) {
+        if is_above(cells, n, bounds.low, row) {
+            return is_under(cells, n, bounds.high, row);
+        }
+    }
+    false
+}
+
+fn counts(cells: &[u64], row: usize, cutoff: u64) -> bool
+    requires { ⌜ RowCells (now cells) row ⌝ }
+    ensures { λ r. ⌜ r ≡ Narrowing·counts cutoff (cellsRow (now (cells .entry)) row) ⌝ }
+{
+    if is_eligible(cells, row, cutoff) {
+        return 0 < effective_supply(cells, row);
+    }
+    false
+}
+
+fn is_above(cells: &[u64], n: usize, bound: usize, row: usize) -> bool
+    requires { ⌜ SupplyCells n (now cells) ⌝ }
+    requires { ⌜ row < n ⌝ }
+    ensures { λ r. ⌜ r ≡ above n (now (cells .entry)) bound (cellsRow (now (cells .entry)) row) ⌝ }
+{
+    if bound < n {
+        return cost_beside(cells, row, bound) < cost_beside(cells, bound, row);
+    }
+    true
+}
+
+fn is_under(cells: &[u64], n: usize, bound: usize, row: usize) -> bool
+    requires { ⌜ SupplyCells n (now cells) ⌝ }
+    requires { ⌜ row < n ⌝ }
+    ensures { λ r. ⌜ r ≡ under n (now (cells .entry)) bound (cellsRow (now (cells .entry)) row) ⌝ }
+{
+    if bound < n {
+        return cost_beside(cells, bound, row) < cost_beside(cells, row, bound);
+    }
+    true
+}

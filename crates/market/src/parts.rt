@@ -66,8 +66,8 @@ fn is_up_to(cells: &[u64], row: usize, limit: usize, cutoff: u64) -> bool
     requires { ⌜ RowCells (now cells) limit ⌝ }
     ensures { λ r. ⌜ r ≡ eligibleUpTo cutoff (cellsRow (now (cells .entry)) limit) (cellsRow (now (cells .entry)) row) ⌝ }
 {
-    if is_eligible(cells, row, cutoff) {
-        return cost_beside(cells, limit, row) <= cost_beside(cells, row, limit);
+    if cost_beside(cells, limit, row) <= cost_beside(cells, row, limit) {
+        return is_eligible(cells, row, cutoff);
     }
     false
 }

@@ -1,27 +1,23 @@
 -- Laws of a unit's test: one for each way through the code. Assumes nothing.
 use Prim.Native.Nat.{ℕ, _≤_, _<_}
 use mathlib.Core.Path.{_≡_, refl, sym, _∙_, ap}
-use mathlib.Core.Bool.{Bool, true, false, _&&_}
+use mathlib.Core.Bool.{Bool, true, false}
 use mathlib.Core.List.{List}
 use native.Mathlib.Omega.{arith}
 use lib.ListN.{length, take, length-map, length-take}
-use Rattle.base.specs.Search.{any}
 use Rattle.tables.specs.Rows.{ConstraintRow, SupplyRow, constraintRow, supplyRows}
 use Rattle.tables.proofs.RowViews.{supply-length}
 use Rattle.market.specs.Clearing.{needOf, clearing}
 use Rattle.market.specs.Parties.{party, parties, amountOf, amounts}
-use Rattle.market.specs.Ranges.{cellsRow}
 use Rattle.market.proofs.RangeLaws.{amounts-limited}
 use Rattle.pivotal.specs.Tally.{Limited}
 use Rattle.pivotal.specs.Test.{left, pivotal}
 use Rattle.commitment.specs.Exposure.{exposed}
 use Rattle.judge.specs.Decision.{
   need,
-  ofUnit,
   unitRow,
   placeOf,
   untested,
-  cleared,
   leftOf,
   verdictOf,
   leftShown,
@@ -31,7 +27,7 @@ use Rattle.judge.specs.Decision.{
 }
 use Rattle.decision.specs.Standing.{MarketCells, standing, Stands}
 use Rattle.decision.specs.Testing.{unitTest, InMarket}
-use Rattle.decision.specs.Units.{wantedRow}
+use Rattle.decision.specs.Units.{anyOf, wantedRow}
 use Rattle.decision.specs.declared.standing.Standing.{Standing}
 use Rattle.decision.specs.declared.standing.Standing.the-variants.{Short, Cleared}
 use Rattle.decision.specs.declared.units.Wanted.the-variants.{Eligible, Relevant}
@@ -118,7 +114,7 @@ module _ (c : ConstraintRow) (supply : List SupplyRow) (u : ℕ) (w : SupplyRow)
 -- what is asked for, as the code asks it
 pub eligible-wanted :
     (c : ConstraintRow) (supply : List SupplyRow) (cells : List ℕ) (u : ℕ) (e : Bool) →
-    e ≡ any (λ (row : SupplyRow). ofUnit u row && wantedRow cells (c .cutoff) Eligible row) supply → e ≡ hasEligible c supply u
+    e ≡ anyOf u (wantedRow cells (c .cutoff) Eligible) supply → e ≡ hasEligible c supply u
 unfolding hasEligible wantedRow
 eligible-wanted c supply cells u e f = f
 
@@ -128,7 +124,7 @@ module _
   where
     pub relevant-wanted :
         (u : ℕ) (e : Bool) →
-        e ≡ any (λ (row : SupplyRow). ofUnit u row && wantedRow cells (constraintRow constraint .cutoff) (Relevant q) row) (supplyRows n cells) →
+        e ≡ anyOf u (wantedRow cells (constraintRow constraint .cutoff) (Relevant q)) (supplyRows n cells) →
         e ≡ hasRelevant (constraintRow constraint) (supplyRows n cells) u
     unfolding hasRelevant wantedRow
     relevant-wanted u e f = rw (← cleared-row constraint n cells market (in-market .enough) q (in-market .clears)) f

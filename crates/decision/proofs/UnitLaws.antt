@@ -1,24 +1,23 @@
 -- Laws of the searches among a unit's supply rows that stand in cells, and of the place of a number in a list. Assumes nothing.
 use Prim.Native.Nat.{ℕ, suc, _+_, _*_, _≤_, _<_}
-use mathlib.Core.Path.{_≡_, refl, sym, _∙_, ap}
+use mathlib.Core.Path.{_≡_, refl, sym, _∙_}
 use mathlib.Core.Bool.{Bool, true, false, _||_}
-use mathlib.Core.List.{List, []}
+use mathlib.Core.List.{List}
 use mathlib.Core.Logic.{⊎-elim}
-use mathlib.Core.Option.{some, none, Option·getD}
+use mathlib.Core.Option.{Option·getD}
 use native.Mathlib.Omega.{arith}
 use lib.Dec.{eqb}
 use lib.ListN.{length, getD, drop}
 use lib.Seq.{getD-drop}
-use Rattle.base.specs.Search.{any, find, first}
+use Rattle.base.specs.Search.{any, first}
 use Rattle.base.proofs.Finds.{find-here, find-later}
 use Rattle.base.proofs.Lists.{drop-next, drop-end}
 use Rattle.base.proofs.Tests.{false-true, lt-or-ge, either}
 use Rattle.tables.specs.Rows.{SupplyRow, supplyRows}
-use Rattle.market.specs.Clearing.{noRow}
 use Rattle.market.specs.Ranges.{cellsRow}
 use Rattle.market.proofs.CellLaws.{rows-next, rows-end}
 use Rattle.judge.specs.Decision.{ofUnit, unitRow, placeOf}
-use Rattle.decision.specs.Units.{UnitFound}
+use Rattle.decision.specs.Units.{UnitFound, anyOf}
 
 pub of-unit : (cells : List ℕ) (i u : ℕ) → eqb (getD cells (i * 5) 0) u ≡ ofUnit u (cellsRow cells i)
 unfolding ofUnit
@@ -39,10 +38,11 @@ module _ (p : SupplyRow → Bool) (n : ℕ) (cells : List ℕ) (i : ℕ) where
 pub record Seeking (u n : ℕ) (cells : List ℕ) (i : ℕ) : Type 0 where
   pub there : any (ofUnit u) (drop i (supplyRows n cells)) ≡ true
   pub same : unitRow (supplyRows n cells) u ≡ unitRow (drop i (supplyRows n cells)) u
+  pub none-before : (p : SupplyRow → Bool) → anyOf u p (supplyRows n cells) ≡ anyOf u p (drop i (supplyRows n cells))
 
 module _ (u n : ℕ) (cells : List ℕ) where
   pub seeking-none : any (ofUnit u) (supplyRows n cells) ≡ true → Seeking u n cells 0
-  seeking-none e = record { there = e; same = refl }
+  seeking-none e = record { there = e; same = refl; none-before = λ p. refl }
 
   module _ (i : ℕ) (seeking : Seeking u n cells i) where
     pub seeking-within : i < n
@@ -55,6 +55,7 @@ module _ (u n : ℕ) (cells : List ℕ) where
         record {
           within = seeking-within;
           found = sym (seeking .same ∙ rw (rows-next n cells i seeking-within, find-here (ofUnit u) (cellsRow cells i) _ e));
+          none-before = seeking .none-before;
         }
 
     pub seeking-later : ofUnit u (cellsRow cells i) ≡ false → Seeking u n cells (i + 1)
@@ -63,6 +64,7 @@ module _ (u n : ℕ) (cells : List ℕ) where
         record {
           there = simp e at (sym (any-further (ofUnit u) n cells i seeking-within) ∙ seeking .there);
           same = seeking .same ∙ rw (rows-next n cells i seeking-within, find-later (ofUnit u) (cellsRow cells i) _ e);
+          none-before = λ p. seeking .none-before p ∙ any-further _ n cells i seeking-within ∙ simp e;
         }
 
     -- the last row is the unit's if no other is

@@ -1,20 +1,27 @@
 -- A unit's supply rows, as they stand in cells. Assumes nothing.
 use Prim.Native.Nat.{ℕ, _<_}
 use mathlib.Core.Path.{_≡_}
-use mathlib.Core.Bool.{Bool}
+use mathlib.Core.Bool.{Bool, _&&_}
 use mathlib.Core.List.{List}
+use lib.ListN.{drop}
+use Rattle.base.specs.Search.{any}
 use Rattle.tables.specs.Rows.{SupplyRow, supplyRows}
 use Rattle.market.specs.Ranges.{RowCells, cellsRow}
 use Rattle.market.specs.Relevant.{relevant}
 use Rattle.market.specs.Supply.{eligible}
-use Rattle.judge.specs.Decision.{unitRow}
+use Rattle.judge.specs.Decision.{ofUnit, unitRow}
 use Rattle.decision.specs.declared.units.Wanted.{Wanted}
 use Rattle.decision.specs.declared.units.Wanted.the-variants.{Eligible, Relevant}
 
--- the place of the unit's row among n
+-- whether some row is the unit's and passes a test
+abbrev pub anyOf : ℕ → (SupplyRow → Bool) → List SupplyRow → Bool
+anyOf u p = any (λ (row : SupplyRow). ofUnit u row && p row)
+
+-- the place of the first of the unit's rows among n
 pub record UnitFound (u n : ℕ) (cells : List ℕ) (r : ℕ) : Type 0 where
   pub within : r < n
   pub found : cellsRow cells r ≡ unitRow (supplyRows n cells) u
+  pub none-before : (p : SupplyRow → Bool) → anyOf u p (supplyRows n cells) ≡ anyOf u p (drop r (supplyRows n cells))
 
 -- whether a row is wanted
 unfoldable pub wantedRow : List ℕ → ℕ → Wanted → SupplyRow → Bool

@@ -1,12 +1,9 @@
 // A unit's test: its supplier, the verdict and what is left, and whether the unit is exposed.
 ghost use mathlib.Core.Path.{_≡_};
 ghost use mathlib.Core.Bool.{true, false};
-ghost use Prim.Native.Nat.{_<_};
 ghost use Rattle.base.specs.Search.{any};
 ghost use Rattle.tables.specs.Rows.{constraintRow, supplyRows};
-ghost use Rattle.market.specs.Clearing.{clearing as Clearing·clearing};
-ghost use Rattle.market.specs.Parties.{parties as Parties·parties, amounts as Parties·amounts};
-ghost use Rattle.judge.specs.Decision.{ofUnit, need, untested, cleared};
+ghost use Rattle.judge.specs.Decision.{ofUnit};
 ghost use Rattle.decision.specs.Standing.{Stands, MarketCells};
 ghost use Rattle.decision.specs.Testing.{unitTest, InMarket};
 ghost use Rattle.decision.specs.Units.{UnitFound};
@@ -58,7 +55,7 @@ pub fn test_unit(
             supplier: supplier(cells, row),
             verdict: U,
             left: 0,
-            exposed: has_wanted(cells, n, unit, constraint[CUTOFF], Wanted::Eligible),
+            exposed: has_wanted(cells, n, unit, row, constraint[CUTOFF], Wanted::Eligible),
         },
         Standing::Cleared(clearing, count) => test_in_market(
             constraint,
@@ -73,7 +70,8 @@ pub fn test_unit(
     }
 }
 
-// The test of a unit in a market that the row at `clearing` clears, where `row` is a row of the unit.
+// The test of a unit in a market that the row at `clearing` clears, where `row` is the first of the
+// unit's.
 fn test_in_market(
     constraint: &[u64],
     cells: &[u64],
@@ -99,6 +97,7 @@ fn test_in_market(
                 cells,
                 n,
                 unit,
+                row,
                 constraint[CUTOFF],
                 Wanted::Relevant(clearing),
             ),

@@ -2,10 +2,10 @@
 ghost use mathlib.Core.Path.{_≡_};
 ghost use mathlib.Core.Bool.{true, _&&_};
 ghost use Rattle.base.specs.Search.{any};
-ghost use Rattle.tables.specs.Rows.{SupplyRow, supplyRows};
+ghost use Rattle.tables.specs.Rows.{supplyRows};
 ghost use Rattle.market.specs.Ranges.{RowCells, SupplyCells, cellsRow};
 ghost use Rattle.judge.specs.Decision.{ofUnit, placeOf};
-ghost use Rattle.decision.specs.Units.{UnitFound, wantedRow, WantedCells};
+ghost use Rattle.decision.specs.Units.{UnitFound, anyOf, wantedRow, WantedCells};
 use market::is_eligible;
 use market::is_relevant;
 
@@ -35,13 +35,21 @@ pub fn row_of(cells: &[u64], n: usize, unit: u64) -> usize
     row
 }
 
-// Whether one of the unit's rows is wanted.
-pub fn has_wanted(cells: &[u64], n: usize, unit: u64, cutoff: u64, wanted: Wanted) -> bool
+// Whether one of the unit's rows is wanted, the first of which is at `found`.
+pub fn has_wanted(
+    cells: &[u64],
+    n: usize,
+    unit: u64,
+    found: usize,
+    cutoff: u64,
+    wanted: Wanted,
+) -> bool
     requires { ⌜ SupplyCells n (now cells) ⌝ }
+    requires { ⌜ UnitFound unit n (now cells) found ⌝ }
     requires { ⌜ WantedCells (now cells) wanted ⌝ }
-    ensures { λ r. ⌜ r ≡ any (λ (row : SupplyRow). ofUnit unit row && wantedRow (now (cells .entry)) cutoff wanted row) (supplyRows n (now (cells .entry))) ⌝ }
+    ensures { λ r. ⌜ r ≡ anyOf unit (wantedRow (now (cells .entry)) cutoff wanted) (supplyRows n (now (cells .entry))) ⌝ }
 {
-    let mut row = 0;
+    let mut row = found;
     while row < n {
         if is_wanted_of(cells, row, unit, cutoff, wanted) {
             return true;

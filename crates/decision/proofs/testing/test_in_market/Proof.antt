@@ -40,7 +40,7 @@ shared-slice-read-has-wanted c = search needs
 has-wanted-requires : tie.Need-has-wanted-requires
 has-wanted-requires c κs =
     let start = c .before .before .before .before .before .before .before .before .before .before .before .before .before in
-    (start .pre .0 .rows, row-cells _ _ _ (start .pre .0 .rows) (market-clears _ _ _ (start .pre .0) (start .pre .1 .1)))
+    (start .pre .0 .rows, (start .pre .1 .0, row-cells _ _ _ (start .pre .0 .rows) (market-clears _ _ _ (start .pre .0) (start .pre .1 .1))))
 
 returns : tie.Need-returns
 returns c =

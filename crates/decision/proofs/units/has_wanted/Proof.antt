@@ -1,29 +1,29 @@
 -- The search for a wanted row of the unit. Assumes nothing.
 use Prim.Native.Nat.{_-_, _≤_}
-use mathlib.Core.Path.{_≡_, refl, sym, _∙_}
-use mathlib.Core.Bool.{_&&_}
+use mathlib.Core.Path.{_≡_, sym, _∙_}
 use native.Mathlib.Omega.{arith}
 use lib.ListN.{drop}
-use Rattle.base.specs.Search.{any}
-use Rattle.tables.specs.Rows.{SupplyRow, supplyRows}
+use Rattle.tables.specs.Rows.{supplyRows}
 use Rattle.market.proofs.CellLaws.{row-cells}
-use Rattle.judge.specs.Decision.{ofUnit}
-use Rattle.decision.specs.Units.{wantedRow}
+use Rattle.decision.specs.Units.{anyOf, wantedRow}
 use Rattle.decision.proofs.UnitLaws.{any-further, any-over}
 use Rattle.decision.proofs.units.has_wanted.Statement.{statement}
 use Rattle.decision.proofs.units.has_wanted.Tie as tie
 
 abbrev Inv-loop : tie.InvT-loop
-Inv-loop cells n unit cutoff wanted row₀ row = (row ≤ n) × (any (λ (r : SupplyRow). ofUnit unit r && wantedRow cells cutoff wanted r) (supplyRows n cells) ≡ any (λ (r : SupplyRow). ofUnit unit r && wantedRow cells cutoff wanted r) (drop row (supplyRows n cells)))
+Inv-loop cells n unit found cutoff wanted row₀ row =
+    (row ≤ n)
+    × (anyOf unit (wantedRow cells cutoff wanted) (supplyRows n cells) ≡ anyOf unit (wantedRow cells cutoff wanted) (drop row (supplyRows n cells)))
 
 abbrev μ-loop : tie.MeasureT-loop
-μ-loop cells n unit cutoff wanted row₀ row = n - row
+μ-loop cells n unit found cutoff wanted row₀ row = n - row
 
 loop-holds : tie.Need-loop-holds Inv-loop μ-loop
-loop-holds c = (omega arith, refl)
+loop-holds c = let found = c .before .pre .1 .0 in
+    (omega arith, found .none-before _)
 
 is-wanted-of-requires : tie.Need-is-wanted-of-requires Inv-loop μ-loop
-is-wanted-of-requires c κs = (row-cells _ _ _ (c .before .before .before .pre .0) (omega arith), c .before .before .before .pre .1)
+is-wanted-of-requires c κs = (row-cells _ _ _ (c .before .before .before .pre .0) (omega arith), c .before .before .before .pre .1 .1)
 
 returns : tie.Need-returns Inv-loop μ-loop
 returns c =

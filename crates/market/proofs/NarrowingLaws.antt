@@ -18,8 +18,7 @@ use Rattle.market.specs.Clearing.{eligibleUpTo, eligibleBelow, clears, n
 use Rattle.market.specs.Narrowing.{
   eligibleAt,
   counts,
-  above,
-  under,
+  cheaper,
   between,
   Outside,
   Bounding,
@@ -100,23 +99,23 @@ module _
     pub clears-at : (q : SupplyRow) → clears cutoff need rows q ≡ eligibleAt cutoff h q
     unfolding clears eligibleAt below AtMost
     clears-at q =
-        ⊎-elim cheaper (λ a. ⊎-elim (dear a) (same a) (below-or-above h q)) (below-or-above q h)
+        ⊎-elim under-it (λ a. ⊎-elim (over-it a) (same a) (below-or-above h q)) (below-or-above q h)
       where
         Goal : Type 0
         Goal = clears cutoff need rows q ≡ eligibleAt cutoff h q
 
-        cheaper : below h q ≡ true → Goal
-        cheaper b =
-            let under = ltb-true (costBeside h q) (costBeside q h) b in
+        under-it : below h q ≡ true → Goal
+        under-it b =
+            let cost = ltb-true (costBeside h q) (costBeside q h) b in
             simp (
               lt-leb need (supplyOf (eligibleUpTo cutoff q) rows) (omega (arith, dearer cutoff rows q h b)),
               ne-eqb (costBeside h q) (costBeside q h) (omega arith),
               and-false,
             )
 
-        dear : AtMost h q → below q h ≡ true → Goal
-        dear a b =
-            let over = ltb-true (costBeside q h) (costBeside h q) b in
+        over-it : AtMost h q → below q h ≡ true → Goal
+        over-it a b =
+            let cost = ltb-true (costBeside q h) (costBeside h q) b in
             simp (
               le-ltb (supplyOf (eligibleBelow cutoff q) rows) need (omega (arith, dearer cutoff rows h q b)),
               ne-eqb (costBeside h q) (costBeside q h) (omega arith),
@@ -149,34 +148,26 @@ pub clears-nothing :
 unfolding clears
 clears-nothing cutoff need e rows q = simp (le-ltb (supplyOf (eligibleBelow cutoff q) rows) need (omega arith), and-false)
 
--- the tests on a bound
-module _ (n : ℕ) (cells : List ℕ) (i : ℕ) (q : SupplyRow) where
-  bound-cases : (t : Bool) → cond (ltb i n) t true ≡ false → (i < n) × (t ≡ false)
-  bound-cases t e = go (ltb i n) refl e
+-- what the test of two rows' costs says
+module _ (n : ℕ) (cells : List ℕ) (i j : ℕ) where
+  not-cheaper : cheaper n cells i j ≡ false → (i < n) × (j < n) × (atMost (cellsRow cells i) (cellsRow cells j) ≡ true)
+  unfolding cheaper
+  not-cheaper e = go (ltb i n) (ltb j n) refl refl e
     where
-      go : (u : Bool) → ltb i n ≡ u → cond u t true ≡ false → (i < n) × (t ≡ false)
-      go true f e = (ltb-true i n f, e)
-      go false f e = false-true (sym e)
+      its : Bool
+      its = below (cellsRow cells j) (cellsRow cells i)
 
-  not-above : above n cells i q ≡ false → (i < n) × (atMost (cellsRow cells i) q ≡ true)
-  unfolding above
-  not-above e =
-      let (h, f) = bound-cases (below q (cellsRow cells i)) e in
-      (h, at-most q (cellsRow cells i) (not-below-most (cellsRow cells i) q f))
+      go :
+          (t u : Bool) → ltb i n ≡ t → ltb j n ≡ u → cond (t && u) its true ≡ false →
+          (i < n) × (j < n) × (atMost (cellsRow cells i) (cellsRow cells j) ≡ true)
+      go true true f g e =
+          (ltb-true i n f, ltb-true j n g, at-most (cellsRow cells j) (cellsRow cells i) (not-below-most (cellsRow cells i) (cellsRow cells j) e))
+      go true false f g e = false-true (sym e)
+      go false u f g e = false-true (sym e)
 
-  not-under : under n cells i q ≡ false → (i < n) × (atMost q (cellsRow cells i) ≡ true)
-  unfolding under
-  not-under e =
-      let (h, f) = bound-cases (below (cellsRow cells i) q) e in
-      (h, at-most (cellsRow cells i) q (not-below-most q (cellsRow cells i) f))
-
-  is-above : above n cells i q ≡ true → i < n → AtMost (cellsRow cells i) q
-  unfolding above
-  is-above e h = below-most (cellsRow cells i) q (simp (lt-ltb i n h) at e)
-
-  is-under : under n cells i q ≡ true → i < n → AtMost q (cellsRow cells i)
-  unfolding under
-  is-under e h = below-most q (cellsRow cells i) (simp (lt-ltb i n h) at e)
+  is-cheaper : cheaper n cells i j ≡ true → i < n → j < n → AtMost (cellsRow cells i) (cellsRow cells j)
+  unfolding cheaper
+  is-cheaper e h k = below-most (cellsRow cells i) (cellsRow cells j) (simp (lt-ltb i n h, lt-ltb j n k) at e)
 
 and-cases : (s t u : Bool) → s ≡ true → (s && (t && u)) ≡ false → (t ≡ false) ⊎ (u ≡ false)
 and-cases true true u c e = inr e
@@ -188,15 +179,19 @@ module _ (n : ℕ) (cells : List ℕ) (cutoff need : ℕ) (b : Bounds) (bounding
   abbrev q : SupplyRow
   q = cellsRow cells i
 
-  not-between : between n cells cutoff b q ≡ false → counts cutoff q ≡ true → Outside n cells b q
+  not-between : between n cells cutoff b i ≡ false → counts cutoff q ≡ true → Outside n cells b q
   unfolding between
   not-between e c =
       ⊎-elim
-      (λ f. inl (not-above n cells (b .low) q f))
-      (λ f. inr (not-under n cells (b .high) q f))
-      (and-cases (counts cutoff q) (above n cells (b .low) q) (under n cells (b .high) q) c e)
+      (λ f.
+      let (h, _, a) = not-cheaper n cells (b .low) i f in
+      inl (h, a))
+      (λ f.
+      let (_, h, a) = not-cheaper n cells i (b .high) f in
+      inr (h, a))
+      (and-cases (counts cutoff q) (cheaper n cells (b .low) i) (cheaper n cells i (b .high)) c e)
 
-  pub narrows-not : (i < n → between n cells cutoff b q ≡ false) → Narrows n cells cutoff need b i b
+  pub narrows-not : (i < n → between n cells cutoff b i ≡ false) → Narrows n cells cutoff need b i b
   narrows-not e =
       record {
         bounding = bounding;
@@ -204,18 +199,18 @@ module _ (n : ℕ) (cells : List ℕ) (cutoff need : ℕ) (b : Bounds) (bounding
         now-outside = λ h c. not-between (e h) c;
       }
 
-  module _ (e : between n cells cutoff b q ≡ true) (up : ℕ) (f : up ≡ supplyOf (eligibleUpTo cutoff q) (supplyRows n cells)) where
+  module _ (e : between n cells cutoff b i ≡ true) (up : ℕ) (f : up ≡ supplyOf (eligibleUpTo cutoff q) (supplyRows n cells)) where
     it-counts : counts cutoff q ≡ true
     unfolding between
     it-counts = and-fst (counts cutoff q) _ e
 
-    over-low : above n cells (b .low) q ≡ true
+    over-low : cheaper n cells (b .low) i ≡ true
     unfolding between
-    over-low = and-fst (above n cells (b .low) q) _ (and-snd (counts cutoff q) _ e)
+    over-low = and-fst (cheaper n cells (b .low) i) _ (and-snd (counts cutoff q) _ e)
 
-    under-high : under n cells (b .high) q ≡ true
+    under-high : cheaper n cells i (b .high) ≡ true
     unfolding between
-    under-high = and-snd (above n cells (b .low) q) _ (and-snd (counts cutoff q) _ e)
+    under-high = and-snd (cheaper n cells (b .low) i) _ (and-snd (counts cutoff q) _ e)
 
     itself : atMost q q ≡ true
     itself = at-most q q (⊎-elim (λ h. h) (λ h. h) (one-way q q))
@@ -237,7 +232,7 @@ module _ (n : ℕ) (cells : List ℕ) (cutoff need : ℕ) (b : Bounds) (bounding
         further r k a =
             let low = cellsRow cells (b .low) in
             at-most r q
-            (through-supply r low q (counts-supplies cutoff low (bounding .low-counts k)) (at-most-true r low a) (is-above n cells (b .low) q over-low k))
+            (through-supply r low q (counts-supplies cutoff low (bounding .low-counts k)) (at-most-true r low a) (is-cheaper n cells (b .low) i over-low k h))
 
     pub narrows-high : i < n → need ≤ up → Narrows n cells cutoff need b i record { low = b .low; high = i }
     narrows-high h enough =
@@ -256,7 +251,7 @@ module _ (n : ℕ) (cells : List ℕ) (cutoff need : ℕ) (b : Bounds) (bounding
         further r k a =
             let high = cellsRow cells (b .high) in
             at-most q r
-            (through-supply q high r (counts-supplies cutoff high (bounding .high-counts k)) (is-under n cells (b .high) q under-high k) (at-most-true high r a))
+            (through-supply q high r (counts-supplies cutoff high (bounding .high-counts k)) (is-cheaper n cells i (b .high) under-high h k) (at-most-true high r a))
 
 -- the row that a turn visits, and the turn that visits a row
 abbrev pub visited : ℕ → ℕ
@@ -317,7 +312,7 @@ module _ (n : ℕ) (cells : List ℕ) (cutoff need : ℕ) where
           (lt-or-ge t turn)
 
   module _
-      (cellsOf : SupplyCells n cells) (some-need : 0 < need) (turn : ℕ) (b : Bounds) (over : 256 ≤ turn)
+      (in-range : SupplyCells n cells) (some-need : 0 < need) (turn : ℕ) (b : Bounds) (over : 256 ≤ turn)
       (s : Searching n cells cutoff need turn b)
     where
       rows : List SupplyRow
@@ -326,7 +321,7 @@ module _ (n : ℕ) (cells : List ℕ) (cutoff need : ℕ) where
       -- each row that counts
       each-place : (i : ℕ) → i < n → counts cutoff (cellsRow cells i) ≡ true → Outside n cells b (cellsRow cells i)
       each-place i h c =
-          let few = cellsOf .few in
+          let few = in-range .few in
           let (small, back) = turn-of i (omega arith) in
           rw back at (s .outside (turnOf i) (omega arith) (rw back h) (rw back c))
 

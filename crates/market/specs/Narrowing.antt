@@ -27,15 +27,13 @@ unfoldable pub counts : ℕ → SupplyRow → Bool
 counts cutoff r = eligible cutoff r && ltb 0 (supply r)
 
 module _ (n : ℕ) (cells : List ℕ) where
-  -- whether the cost of q is above the bound at a place, and below it; past the rows there is no bound
-  unfoldable pub above : ℕ → SupplyRow → Bool
-  above i q = cond (ltb i n) (below q (cellsRow cells i)) true
+  -- whether the cost of the row at i is below that of the row at j, or there is no such row
+  unfoldable pub cheaper : ℕ → ℕ → Bool
+  cheaper i j = cond (ltb i n && ltb j n) (below (cellsRow cells j) (cellsRow cells i)) true
 
-  unfoldable pub under : ℕ → SupplyRow → Bool
-  under i q = cond (ltb i n) (below (cellsRow cells i) q) true
-
-  unfoldable pub between : ℕ → Bounds → SupplyRow → Bool
-  between cutoff b q = counts cutoff q && (above (b .low) q && under (b .high) q)
+  -- whether the row at i counts and is between the bounds
+  unfoldable pub between : ℕ → Bounds → ℕ → Bool
+  between cutoff b i = counts cutoff (cellsRow cells i) && (cheaper (b .low) i && cheaper i (b .high))
 
   -- the cost of q is at or below the low bound, or at or above the high one
   abbrev pub Outside : Bounds → SupplyRow → Type 0

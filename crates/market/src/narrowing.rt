@@ -3,7 +3,7 @@
 ghost use mathlib.Core.Path.{_≡_};
 ghost use Prim.Native.Nat.{_<_};
 ghost use Rattle.market.specs.Ranges.{RowCells, SupplyCells, cellsRow};
-ghost use Rattle.market.specs.Narrowing.{counts as Narrowing·counts, above, under, between, Bounding, Narrows, ClearingCost};
+ghost use Rattle.market.specs.Narrowing.{counts as Narrowing·counts, cheaper, between, Bounding, Narrows, ClearingCost};
 use crate::parts::Part;
 use crate::parts::supply_of;
 use crate::rows::cost_beside;
@@ -67,16 +67,17 @@ fn narrowed(cells: &[u64], n: usize, cutoff: u64, need: u64, bounds: Bounds, row
 fn is_between(cells: &[u64], n: usize, cutoff: u64, bounds: Bounds, row: usize) -> bool
     requires { ⌜ SupplyCells n (now cells) ⌝ }
     requires { ⌜ row < n ⌝ }
-    ensures { λ r. ⌜ r ≡ between n (now (cells .entry)) cutoff bounds (cellsRow (now (cells .entry)) row) ⌝ }
+    ensures { λ r. ⌜ r ≡ between n (now (cells .entry)) cutoff bounds row ⌝ }
 {
     if counts(cells, row, cutoff) {
-        if is_above(cells, n, bounds.low, row) {
-            return is_under(cells, n, bounds.high, row);
+        if is_cheaper(cells, n, bounds.low, row) {
+            return is_cheaper(cells, n, row, bounds.high);
         }
     }
     false
 }
 
+// Rows that supply nothing aren't tried: some row of the clearing cost supplies something.
 fn counts(cells: &[u64], row: usize, cutoff: u64) -> bool
     requires { ⌜ RowCells (now cells) row ⌝ }
     ensures { λ r. ⌜ r ≡ Narrowing·counts cutoff (cellsRow (now (cells .entry)) row) ⌝ }
@@ -87,24 +88,15 @@ fn counts(cells: &[u64], row: usize, cutoff: u64) -> bool
     false
 }
 
-fn is_above(cells: &[u64], n: usize, bound: usize, row: usize) -> bool
+// Whether the cost of the one row is below that of the other, or there is no such row.
+fn is_cheaper(cells: &[u64], n: usize, row: usize, other: usize) -> bool
     requires { ⌜ SupplyCells n (now cells) ⌝ }
-    requires { ⌜ row < n ⌝ }
-    ensures { λ r. ⌜ r ≡ above n (now (cells .entry)) bound (cellsRow (now (cells .entry)) row) ⌝ }
+    ensures { λ r. ⌜ r ≡ cheaper n (now (cells .entry)) row other ⌝ }
 {
-    if bound < n {
-        return cost_beside(cells, row, bound) < cost_beside(cells, bound, row);
-    }
-    true
-}
-
-fn is_under(cells: &[u64], n: usize, bound: usize, row: usize) -> bool
-    requires { ⌜ SupplyCells n (now cells) ⌝ }
-    requires { ⌜ row < n ⌝ }
-    ensures { λ r. ⌜ r ≡ under n (now (cells .entry)) bound (cellsRow (now (cells .entry)) row) ⌝ }
-{
-    if bound < n {
-        return cost_beside(cells, bound, row) < cost_beside(cells, row, bound);
+    if row < n {
+        if other < n {
+            return cost_beside(cells, other, row) < cost_beside(cells, row, other);
+        }
     }
     true
 }

@@ -55,7 +55,7 @@ pub fn file(
     requires { ⌜ mostUnits < length (now units) ⌝ }
     ensures { λ r. ⌜ FilesFiled (now (constraint .entry)) (now (supply .entry)) (now (schedules .entry)) (now («constraint_cells» .exit)) (now («supply_cells» .exit)) (now («schedule_cells» .exit)) (now (units .exit)) r ⌝ }
 {
-    let reading = tables::read(File::Constraint, constraint, constraint_cells);
+    let reading = reading::read(File::Constraint, constraint, constraint_cells);
     match reading {
         Reading::Refused(refusal) => Filed::Refused(refusal),
         Reading::Rows(_) => {
@@ -108,7 +108,7 @@ fn file_supply(supply: &[u8], cells: &mut [u64], units: &mut [u64]) -> SupplyFil
     requires { ⌜ mostUnits < length (now units) ⌝ }
     ensures { λ r. ⌜ SupplyFiled (now (supply .entry)) (now (cells .exit)) (now (units .exit)) r ⌝ }
 {
-    let reading = tables::read(File::Supply, supply, cells);
+    let reading = reading::read(File::Supply, supply, cells);
     match reading {
         Reading::Refused(refusal) => SupplyFiling::Refused(refusal),
         Reading::Rows(n) => {
@@ -146,7 +146,7 @@ fn file_schedules(
     requires { ⌜ hour ≤ lastHour ⌝ }
     ensures { λ r. ⌜ SchedulesFiled hour (take count (now (units .entry))) (now (schedules .entry)) (now (cells .exit)) r ⌝ }
 {
-    let reading = tables::read(File::Schedules, schedules, cells);
+    let reading = reading::read(File::Schedules, schedules, cells);
     match reading {
         Reading::Refused(refusal) => Reading::Refused(refusal),
         Reading::Rows(n) => {

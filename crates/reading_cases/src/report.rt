@@ -14,7 +14,7 @@ const UNTOUCHED: u64 = 18_446_744_073_709_551_615;
 // Reads a file and prints the refusal as number, file and place, or the rows and every cell.
 pub fn case(file: File, bytes: &[u8]) {
     let mut cells = [UNTOUCHED; CELLS];
-    let reading = tables::read(file, bytes, &mut cells);
+    let reading = reading::read(file, bytes, &mut cells);
     match reading {
         Reading::Rows(rows) => print_rows(rows, &cells),
         Reading::Refused(refusal) => print_refusal(refusal),

@@ -40,15 +40,15 @@ abbrev pub maxima : List ℕ
 maxima = map (λ (c : Column). c .maximum) allColumns
 
 module _ (i : ℕ) where
-  form-at : getD forms i 0 ≡ formNumber (columnAt i .form)
+  pub form-at : getD forms i 0 ≡ formNumber (columnAt i .form)
   unfolding columnAt
   form-at = List·getD-map (λ (c : Column). formNumber (c .form)) allColumns i (column "" numeral 0 0)
 
-  minimum-at : getD minima i 0 ≡ columnAt i .minimum
+  pub minimum-at : getD minima i 0 ≡ columnAt i .minimum
   unfolding columnAt
   minimum-at = List·getD-map (λ (c : Column). c .minimum) allColumns i (column "" numeral 0 0)
 
-  maximum-at : getD maxima i 0 ≡ columnAt i .maximum
+  pub maximum-at : getD maxima i 0 ≡ columnAt i .maximum
   unfolding columnAt
   maximum-at = List·getD-map (λ (c : Column). c .maximum) allColumns i (column "" numeral 0 0)
 

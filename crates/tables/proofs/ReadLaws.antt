@@ -61,7 +61,7 @@ module _ (f : File) (s : List ℕ) where
   unfolding misshapen firstOf irregular
   shape-4 e m k = simp (e, m, k)
 
-  shape-right :
+  pub shape-right :
       rfc4180 s ≡ true → misfit f (records s) ≡ none → miscount f (length (rows s)) ≡ none → misshapen f s ≡ none
   unfolding misshapen firstOf irregular
   shape-right e m k = simp (e, m, k)
@@ -79,7 +79,7 @@ module _ (f : File) (s : List ℕ) where
   unfolding reading refusal laid firstOf
   malformed-read p old new e m n = record { answers = simp (e, m); lays = simp e n }
 
-  rows-read :
+  pub rows-read :
       (old new : List ℕ) → misshapen f s ≡ none → malformed f (rows s) ≡ none →
       new ≡ allCells (table f .columns) (rows s) ++ drop (length (allCells (table f .columns) (rows s))) old →
       FileRead f s old new (Rows (length (rows s)))

@@ -9,16 +9,16 @@ use crate::files::File;
 use numeral::Answer;
 
 // The columns of the three files, one file behind the other.
-const COLUMNS: usize = 17;
+pub const COLUMNS: usize = 17;
 
 // A numeral.
-const NUMERAL: u8 = 0;
+pub const NUMERAL: u8 = 0;
 // A numeral, or `-` and a nonzero numeral; the minimum stands without its minus.
-const SIGNED: u8 = 1;
+pub const SIGNED: u8 = 1;
 // One of two letters, the minimum or the maximum.
 const LETTER: u8 = 2;
 
-const FORM: [u8; COLUMNS] = [
+pub const FORM: [u8; COLUMNS] = [
     // hour, relief, cutoff
     NUMERAL,
     NUMERAL,
@@ -41,7 +41,7 @@ const FORM: [u8; COLUMNS] = [
     NUMERAL,
 ];
 
-const MINIMUM: [u64; COLUMNS] = [
+pub const MINIMUM: [u64; COLUMNS] = [
     // hour, relief, cutoff
     0,
     1,
@@ -64,7 +64,7 @@ const MINIMUM: [u64; COLUMNS] = [
     1,
 ];
 
-const MAXIMUM: [u64; COLUMNS] = [
+pub const MAXIMUM: [u64; COLUMNS] = [
     // hour, relief, cutoff
     23,
     1000000,

@@ -6,9 +6,18 @@ mod headers;
 mod reading;
 mod rows;
 
+pub use columns::FORM;
+pub use columns::MAXIMUM;
+pub use columns::MINIMUM;
+pub use columns::NUMERAL;
+pub use columns::SIGNED;
+pub use columns::first_column;
 pub use files::File;
 pub use files::Kind;
 pub use files::Reading;
 pub use files::Refusal;
+pub use files::fewest_rows;
+pub use files::most_rows;
 pub use files::number;
+pub use files::width;
 pub use reading::read;

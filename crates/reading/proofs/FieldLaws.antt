@@ -1,0 +1,263 @@
+-- Laws of a field at a place of a file: its digits one after the other, its cell by the form, its quotes. Assumes nothing.
+use Prim.Native.Nat.{ℕ, zero, suc, _+_, _-_, _*_, _≤_, _<_}
+use mathlib.Core.Path.{_≡_, refl, sym, _∙_, ap}
+use mathlib.Core.Logic.{_≢_}
+use mathlib.Core.Bool.{Bool, true, false, cond, _&&_}
+use mathlib.Core.List.{List, [], _∷_, _++_}
+use mathlib.Core.Option.{Option, none, some, Option·map}
+use native.Mathlib.Omega.{arith}
+use lib.Dec.{eqb, leb}
+use lib.ListN.{length, getD, drop, length-append}
+use lib.Seq.{getD-drop}
+use borrow.Author.Tests.{eq-eqb, ne-eqb, le-leb}
+use Rattle.base.specs.Text.{same}
+use Rattle.base.proofs.Lists.{drop-next}
+use Rattle.csv.specs.Grammar.{DQUOTE, TEXTDATA, above-comma, NonEscaped, Opened, Escaped, Field}
+use Rattle.numeral.specs.Numeral.{ZERO, Digit, withDigit, Digits, number, leadingZero, within}
+use Rattle.numeral.proofs.Reading.{digits-read, number-from, none-some}
+use Rattle.tables.specs.Table.{numeral, signed, letter}
+use Rattle.tables.specs.Values.{MINUS, inForm, excess, oneOf}
+use Rattle.reading.specs.Walk.{Run, Texted, TextFound, Fielded, FieldFound, Closed, formOf}
+use Rattle.reading.specs.declared.fields.Found.{Found}
+
+-- one more byte at the end of a text
+text-more : {s v r : List ℕ} {b : ℕ} → NonEscaped s v (b ∷ r) → TEXTDATA b → NonEscaped s (v ++ b ∷ []) r
+text-more NonEscaped.none t = NonEscaped.text t NonEscaped.none
+text-more (NonEscaped.text u n) t = NonEscaped.text u (text-more n t)
+
+digits-more : {m n b : ℕ} {v : List ℕ} → Digits m v n → Digit b → Digits m (v ++ b ∷ []) (withDigit n b)
+digits-more Digits.end d = Digits.digit d Digits.end
+digits-more (Digits.digit e ds) d = Digits.digit e (digits-more ds d)
+
+-- the least number of more than k digits
+pub tens : ℕ → ℕ
+tens zero = 1
+tens (suc k) = 10 * tens k
+
+tens-rise : (d k : ℕ) → tens k ≤ tens (d + k)
+unfolding tens
+tens-rise zero k =
+    let e : 0 + k ≡ k = omega arith in
+    rw e (omega arith)
+tens-rise (suc d) k =
+    let e : suc d + k ≡ suc (d + k) = omega arith in
+    rw e (omega (arith, tens-rise d k))
+
+tens-most : (k : ℕ) → k ≤ 17 → tens k ≤ 100000000000000000
+tens-most k h =
+    let e : (17 - k) + k ≡ 17 = omega arith in
+    let at-17 : tens 17 ≡ 100000000000000000 = unfold tens in refl in
+    omega (arith, at-17, rw e at (tens-rise (17 - k) k))
+
+-- the digits from `at` to i, which make n
+pub record Running (s : List ℕ) (at i n : ℕ) : Type 0 where
+  pub text : List ℕ
+  pub runs : NonEscaped (drop at s) text (drop i s)
+  pub makes : Digits 0 text n
+  pub counted : i ≡ at + length text
+  pub small : n < tens (length text)
+
+module _ (s : List ℕ) (at : ℕ) where
+  pub running-none : Running s at at 0
+  unfolding tens
+  running-none =
+      record { text = []; runs = NonEscaped.none; makes = Digits.end; counted = omega arith; small = omega arith }
+
+  pub running-fits : (i n : ℕ) → Running s at i n → i < at + 18 → n < 100000000000000000
+  running-fits i n w h = omega (arith, w .small, w .counted, tens-most (length (w .text)) (omega (arith, w .counted)))
+
+  pub running-next :
+      (i n b : ℕ) → Running s at i n → i < length s → b ≡ getD s i 0 → Digit b → Running s at (i + 1) (withDigit n b)
+  unfolding tens
+  running-next i n b w h e d =
+      record {
+        text = w .text ++ b ∷ [];
+        runs = text-more (rw (drop-next 0 i s h, ← e) at (w .runs)) (above-comma (omega arith) (omega arith));
+        makes = digits-more (w .makes) d;
+        counted = omega (arith, w .counted, longer);
+        small = rw (longer, one-more) (omega (arith, w .small));
+      }
+    where
+      longer : length (w .text ++ b ∷ []) ≡ length (w .text) + 1
+      longer = length-append (w .text) (b ∷ [])
+
+      one-more : length (w .text) + 1 ≡ suc (length (w .text))
+      one-more = omega arith
+
+  pub running-over : (i n : ℕ) → Running s at i n → i ≤ length s → Run s at (record { next = i; cell = n })
+  running-over i n w h =
+      record { text = w .text; runs = w .runs; makes = w .makes; counted = w .counted; inside = h }
+
+module _ (read : List ℕ → Option ℕ) (s : List ℕ) (at : ℕ) where
+  -- what was given up
+  pub no-text : (r : Found) → r .next ≡ 0 → TextFound read s at r
+  no-text r e = record { found = λ h. absurd (omega arith) }
+
+  pub no-field : (r : Found) → r .next ≡ 0 → FieldFound read s at r
+  no-field r e = record { found = λ h. absurd (omega arith) }
+
+pub not-closed : (s : List ℕ) (end cell : ℕ) (r : Found) → r .next ≡ 0 → Closed s end cell r
+not-closed s end cell r e = record { found = λ h. absurd (omega arith) }
+
+pub is-closed :
+    (s : List ℕ) (end cell x : ℕ) → (end ≡ 0 → ⊥) → end < length s → getD s end 0 ≡ DQUOTE → x ≡ cell →
+    Closed s end cell (record { next = end + 1; cell = x })
+is-closed s end cell x n h e q =
+    record { found = λ z. (rw (drop-next 0 end s h, e), omega arith, omega arith, q) }
+
+-- digits with no zero in front are a numeral
+number-of :
+    (v : List ℕ) (n : ℕ) → Digits 0 v n → 0 < length v → (getD v 0 0 ≡ ZERO → length v ≤ 1) → number v ≡ some n
+unfolding number leadingZero
+number-of [] n d l z = absurd (omega arith)
+number-of (b ∷ []) n d l z = digits-read d
+number-of (b ∷ c ∷ v) n d l z = number-from b (c ∷ v) (λ e. omega (arith, z e)) ∙ digits-read d
+
+within-bounds : (least most n : ℕ) → least ≤ n → n ≤ most → within least most (some n) ≡ some n
+unfolding within
+within-bounds least most n l h = simp (le-leb least n l, le-leb n most h)
+
+text-head : {s v r : List ℕ} → NonEscaped s v r → 0 < length v → getD s 0 0 ≡ getD v 0 0
+text-head NonEscaped.none h = absurd (omega arith)
+text-head (NonEscaped.text t n) h = refl
+
+head-at : (s : List ℕ) (at : ℕ) → getD (drop at s) 0 0 ≡ getD s at 0
+head-at s at = getD-drop at s 0 0 ∙ ap (λ (k : ℕ). getD s k 0) whole
+  where
+    whole : at + 0 ≡ at
+    whole = omega arith
+
+module _ (s : List ℕ) (at : ℕ) where
+  pub is-numeral :
+      (least most : ℕ) (r : Found) → Run s at r → at < r .next → (getD s at 0 ≡ ZERO → r .next ≤ at + 1) →
+      least ≤ r .cell → r .cell ≤ most → TextFound (inForm numeral least most) s at r
+  unfolding inForm
+  is-numeral least most r w h z l m =
+      record {
+        found = λ p. record {
+          text = w .text;
+          runs = w .runs;
+          means = rw (number-of (w .text) (r .cell) (w .makes) some-digit one-zero) (within-bounds least most (r .cell) l m);
+          inside = w .inside;
+        };
+      }
+    where
+      some-digit : 0 < length (w .text)
+      some-digit = omega (arith, w .counted)
+
+      one-zero : getD (w .text) 0 0 ≡ ZERO → length (w .text) ≤ 1
+      one-zero e = omega (arith, w .counted, z (sym (head-at s at) ∙ text-head (w .runs) some-digit ∙ e))
+
+  pub is-letter :
+      (a b x : ℕ) → at < length s → x ≡ getD s at 0 → 0x41 ≤ x → x ≤ 0x5A → oneOf a b (x ∷ []) ≡ some x →
+      TextFound (inForm letter a b) s at (record { next = at + 1; cell = x })
+  unfolding inForm
+  is-letter a b x h e l m o =
+      record {
+        found = λ p. record {
+          text = x ∷ [];
+          runs = rw (drop-next 0 at s h, ← e) (NonEscaped.text {b = x} (above-comma (omega arith) (omega arith)) NonEscaped.none);
+          means = o;
+          inside = omega arith;
+        };
+      }
+
+pub first-letter : (a b x : ℕ) → x ≡ a → oneOf a b (x ∷ []) ≡ some x
+unfolding oneOf same
+first-letter a b x e = simp (eq-eqb x a e) (ap some (sym e))
+
+pub second-letter : (a b x : ℕ) → (x ≡ a → ⊥) → x ≡ b → oneOf a b (x ∷ []) ≡ some x
+unfolding oneOf same
+second-letter a b x n e = simp (ne-eqb x a n, eq-eqb x b e) (ap some (sym e))
+
+module _ (s : List ℕ) (at minimum maximum : ℕ) where
+  pub is-below :
+      (r : Found) (x : ℕ) → at < length s → getD s at 0 ≡ MINUS → TextFound (inForm numeral 1 minimum) s (at + 1) r →
+      x ≡ minimum - r .cell → TextFound (inForm signed minimum maximum) s at (record { next = r .next; cell = x })
+  unfolding inForm excess
+  is-below r x h e w q =
+      record {
+        found = λ p.
+            let t = w .found p in
+            record {
+              text = MINUS ∷ t .text;
+              runs =
+                  rw (drop-next 0 at s h, e)
+                  (NonEscaped.text {b = MINUS} (above-comma (omega arith) (omega arith)) (t .runs));
+              means = rw (t .means, q);
+              inside = t .inside;
+            };
+      }
+
+  above-value :
+      (v : List ℕ) (n : ℕ) → (getD v 0 0 ≡ MINUS → ⊥) → within 0 maximum (number v) ≡ some n →
+      excess minimum maximum v ≡ some (minimum + n)
+  unfolding excess number within
+  above-value [] n h e = none-some e
+  above-value (b ∷ v) n h e = rw (ne-eqb b MINUS h, e)
+
+  pub is-above :
+      (r : Found) (x : ℕ) → (getD s at 0 ≡ MINUS → ⊥) → TextFound (inForm numeral 0 maximum) s at r →
+      x ≡ minimum + r .cell → TextFound (inForm signed minimum maximum) s at (record { next = r .next; cell = x })
+  unfolding inForm number within
+  is-above r x n w q =
+      record {
+        found = λ p.
+            let t = w .found p in
+            record {
+              text = t .text;
+              runs = t .runs;
+              means = above-value (t .text) (r .cell) (unsigned (t .text) (t .runs) (t .means)) (t .means) ∙ ap some (sym q);
+              inside = t .inside;
+            };
+      }
+    where
+      unsigned :
+          (v : List ℕ) {rest : List ℕ} → NonEscaped (drop at s) v rest → within 0 maximum (number v) ≡ some (r .cell) →
+          getD v 0 0 ≡ MINUS → ⊥
+      unsigned [] t e z = none-some e
+      unsigned (b ∷ v) t e z = n (sym (head-at s at) ∙ text-head t (omega arith) ∙ z)
+
+-- a column's form by the code's number
+module _ (form a b : ℕ) (s : List ℕ) (at : ℕ) (r : Found) where
+  pub as-numeral : form ≡ 0 → TextFound (inForm numeral a b) s at r → TextFound (inForm (formOf form) a b) s at r
+  unfolding formOf
+  as-numeral e w = rw e w
+
+  pub as-signed : form ≡ 1 → TextFound (inForm signed a b) s at r → TextFound (inForm (formOf form) a b) s at r
+  unfolding formOf
+  as-signed e w = rw e w
+
+  pub as-letter :
+      (form ≡ 0 → ⊥) → (form ≡ 1 → ⊥) → TextFound (inForm letter a b) s at r → TextFound (inForm (formOf form) a b) s at r
+  unfolding formOf
+  as-letter n m w = rw (ne-eqb form 0 n, ne-eqb form 1 m) w
+
+opened : {s v q r : List ℕ} → NonEscaped s v q → q ≡ DQUOTE ∷ r → Opened s v r
+opened NonEscaped.none e = rw e Opened.close
+opened (NonEscaped.text t n) e = Opened.text t (opened n e)
+
+module _ (read : List ℕ → Option ℕ) (s : List ℕ) (at : ℕ) where
+  pub is-plain : (r : Found) → TextFound read s at r → FieldFound read s at r
+  is-plain r w =
+      record {
+        found = λ p.
+            let t = w .found p in
+            record { text = t .text; field = Field.non-escaped (t .runs); means = t .means; inside = t .inside };
+      }
+
+  pub is-quoted :
+      (i r : Found) → at < length s → getD s at 0 ≡ DQUOTE → TextFound read s (at + 1) i →
+      Closed s (i .next) (i .cell) r → FieldFound read s at r
+  is-quoted i r h e w k =
+      record {
+        found = λ p.
+            let (ends, some-end, inside, same-cell) = k .found p in
+            let t = w .found some-end in
+            record {
+              text = t .text;
+              field = rw (drop-next 0 at s h, e) (Field.escaped (Escaped.dquote (opened (t .runs) ends)));
+              means = t .means ∙ ap some (sym same-cell);
+              inside = inside;
+            };
+      }

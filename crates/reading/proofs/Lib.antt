@@ -1,0 +1,4 @@
+pub mod FieldLaws
+pub mod FileLaws
+pub mod HeaderLaws
+pub mod RowLaws

@@ -1,0 +1,148 @@
+-- What the steps of the one pass promise, by the grammar of RFC 4180: of a run of digits, a field, a row, the rows and the
+-- header at a place of a file. A step that gives up answers 0, and promises nothing. Assumes nothing.
+use Prim.Native.Nat.{ℕ, _+_, _-_, _≤_, _<_}
+use mathlib.Core.Path.{_≡_}
+use mathlib.Core.Bool.{cond}
+use mathlib.Core.List.{List, [], _∷_, _++_}
+use mathlib.Core.Option.{Option, some}
+use lib.Dec.{eqb}
+use lib.ListN.{length, getD, take, drop}
+use Rattle.csv.specs.Grammar.{COMMA, CR, DQUOTE, LF, NonEscaped, Field, Record}
+use Rattle.csv.proofs.Walk.{Breaks}
+use Rattle.numeral.specs.Numeral.{Digits}
+use Rattle.tables.specs.Table.{Form, numeral, signed, letter, Column, table, header, width}
+use Rattle.tables.specs.Values.{value}
+use Rattle.tables.proofs.ColumnLaws.{forms as allForms, minima as allMinima, maxima as allMaxima}
+use Rattle.tables.specs.Laying.{FileRead}
+use Rattle.tables.specs.declared.files.File.{File}
+use Rattle.tables.specs.declared.files.Reading.the-variants.{Rows as RowsRead}
+use Rattle.reading.specs.declared.fields.Found.{Found}
+
+-- the digits from a place on, and the number that they make
+pub record Run (s : List ℕ) (at : ℕ) (r : Found) : Type 0 where
+  pub text : List ℕ
+  pub runs : NonEscaped (drop at s) text (drop (r .next) s)
+  pub makes : Digits 0 text (r .cell)
+  pub counted : r .next ≡ at + length text
+  pub inside : r .next ≤ length s
+
+-- a text of one cell from a place on
+pub record Texted (read : List ℕ → Option ℕ) (s : List ℕ) (at next cell : ℕ) : Type 0 where
+  pub text : List ℕ
+  pub runs : NonEscaped (drop at s) text (drop next s)
+  pub means : read text ≡ some cell
+  pub inside : next ≤ length s
+
+pub record TextFound (read : List ℕ → Option ℕ) (s : List ℕ) (at : ℕ) (r : Found) : Type 0 where
+  pub found : 0 < r .next → Texted read s at (r .next) (r .cell)
+
+-- a field of one cell from a place on
+pub record Fielded (read : List ℕ → Option ℕ) (s : List ℕ) (at next cell : ℕ) : Type 0 where
+  pub text : List ℕ
+  pub field : Field (drop at s) text (drop next s)
+  pub means : read text ≡ some cell
+  pub inside : next ≤ length s
+
+pub record FieldFound (read : List ℕ → Option ℕ) (s : List ℕ) (at : ℕ) (r : Found) : Type 0 where
+  pub found : 0 < r .next → Fielded read s at (r .next) (r .cell)
+
+-- behind the quote at the end of a text
+pub record Closed (s : List ℕ) (end cell : ℕ) (r : Found) : Type 0 where
+  pub found : 0 < r .next → (drop end s ≡ DQUOTE ∷ drop (r .next) s) × (0 < end) × (r .next ≤ length s) × (r .cell ≡ cell)
+
+-- the form of the code's number
+unfoldable pub formOf : ℕ → Form
+formOf n = cond (eqb n 0) numeral (cond (eqb n 1) signed letter)
+
+-- the code's tables of all columns
+pub record Ranges (fs ls ms : List ℕ) : Type 0 where
+  pub forms : fs ≡ allForms
+  pub minima : ls ≡ allMinima
+  pub maxima : ms ≡ allMaxima
+
+-- behind a COMMA at a place
+pub record CommaFound (s : List ℕ) (at next : ℕ) : Type 0 where
+  pub found : 0 < next → (drop at s ≡ COMMA ∷ drop next s) × (0 < at) × (next ≤ length s)
+
+-- behind a record's end at a place
+pub record EndFound (s : List ℕ) (at next : ℕ) : Type 0 where
+  pub found : 0 < next → Breaks (drop at s) (drop next s) × (0 < at) × (next ≤ length s)
+
+-- s is fields of some values, a COMMA behind each, and then r
+pub data Led : List ℕ → List (List ℕ) → List ℕ → Type 0 where
+  none : {s : List ℕ} → Led s [] s
+  more : {s v t r : List ℕ} {vs : List (List ℕ)} → Field s v (COMMA ∷ t) → Led t vs r → Led s (v ∷ vs) r
+
+-- the values of a row beside their cells
+pub data CellsOf : List Column → List (List ℕ) → List ℕ → Type 0 where
+  none : CellsOf [] [] []
+  more :
+      {c : Column} {cs : List Column} {v : List ℕ} {vs : List (List ℕ)} {x : ℕ} {xs : List ℕ} →
+      value c v ≡ some x → CellsOf cs vs xs → CellsOf (c ∷ cs) (v ∷ vs) (x ∷ xs)
+
+-- the fields of a row but the last, from a place on
+pub record Leading (cs : List Column) (s : List ℕ) (at next : ℕ) (xs : List ℕ) : Type 0 where
+  pub values : List (List ℕ)
+  pub led : Led (drop at s) values (drop next s)
+  pub cells : CellsOf cs values xs
+  pub inside : next ≤ length s
+
+pub record LeadFound (f : File) (s : List ℕ) (at : ℕ) (old new : List ℕ) (next : ℕ) : Type 0 where
+  pub found : 0 < next → Leading (take (width f - 1) (table f .columns)) s at next (take (width f - 1) new)
+  pub kept : drop (width f - 1) new ≡ drop (width f - 1) old
+
+-- a row from a place on
+pub record Rowed (f : File) (s : List ℕ) (at next : ℕ) (xs : List ℕ) : Type 0 where
+  pub values : List (List ℕ)
+  pub ends : List ℕ
+  pub row : Record (drop at s) values ends
+  pub breaks : Breaks ends (drop next s)
+  pub cells : CellsOf (table f .columns) values xs
+  pub inside : next ≤ length s
+
+pub record RowFound (f : File) (s : List ℕ) (at : ℕ) (old new : List ℕ) (next : ℕ) : Type 0 where
+  pub found : 0 < next → Rowed f s at next (take (width f) new)
+  pub kept : drop (width f) new ≡ drop (width f) old
+
+-- s is records of some values, and then r
+pub data Rows : List ℕ → List (List (List ℕ)) → List ℕ → Type 0 where
+  none : {s : List ℕ} → Rows s [] s
+  more :
+      {b : ℕ} {s e t r : List ℕ} {v : List (List ℕ)} {vs : List (List (List ℕ))} →
+      Record (b ∷ s) v e → Breaks e t → Rows t vs r → Rows (b ∷ s) (v ∷ vs) r
+
+-- the values of rows beside their cells
+pub data RowsOf (cs : List Column) : List (List (List ℕ)) → List ℕ → Type 0 where
+  none : RowsOf cs [] []
+  more :
+      {v : List (List ℕ)} {vs : List (List (List ℕ))} {x xs : List ℕ} →
+      CellsOf cs v x → RowsOf cs vs xs → RowsOf cs (v ∷ vs) (x ++ xs)
+
+-- all rows of a file, from a place on
+pub record AllRows (f : File) (s : List ℕ) (start count : ℕ) (old new : List ℕ) : Type 0 where
+  pub values : List (List (List ℕ))
+  pub cells : List ℕ
+  pub rows : Rows (drop start s) values []
+  pub read : RowsOf (table f .columns) values cells
+  pub laid : new ≡ cells ++ drop (length cells) old
+  pub counted : count ≡ length values
+  pub most : count ≤ table f .mostRows
+
+-- rows by the number of the file's records, the header's included
+pub record RowsFound (f : File) (s : List ℕ) (start : ℕ) (old new : List ℕ) (records : ℕ) : Type 0 where
+  pub found : 0 < records → AllRows f s start (records - 1) old new
+
+-- where the one of two texts that s begins with ends
+pub data Begins (s a b : List ℕ) : ℕ → Type 0 where
+  neither : Begins s a b 0
+  the-first : s ≡ a ++ drop (length a) s → Begins s a b (length a)
+  the-second : s ≡ b ++ drop (length b) s → Begins s a b (length b)
+
+-- the header, and where the rows begin
+pub record HeaderFound (f : File) (s : List ℕ) (next : ℕ) : Type 0 where
+  pub found : 0 < next → Record s (header f) (CR ∷ LF ∷ drop next s)
+  pub inside : next ≤ length s
+
+-- a whole file, by the number of its records
+pub record FilePassed (f : File) (s old new : List ℕ) (records : ℕ) : Type 0 where
+  pub found : 0 < records → FileRead f s old new (RowsRead (records - 1))

@@ -9,7 +9,8 @@ use native.Mathlib.Omega.{arith}
 use lib.Dec.{eqb, leb}
 use lib.ListN.{length, getD, drop, length-append}
 use lib.Seq.{getD-drop}
-use borrow.Author.Tests.{eq-eqb, ne-eqb, le-leb}
+use borrow.Author.Tests.{eq-eqb, ne-eqb, le-leb, eqb-true}
+use Rattle.base.specs.Search.{one}
 use Rattle.base.specs.Text.{same}
 use Rattle.base.proofs.Lists.{drop-next}
 use Rattle.csv.specs.Grammar.{DQUOTE, TEXTDATA, above-comma, NonEscaped, Opened, Escaped, Field}
@@ -93,8 +94,8 @@ module _ (read : List ℕ → Option ℕ) (s : List ℕ) (at : ℕ) where
   pub no-text : (r : Found) → r .next ≡ 0 → TextFound read s at r
   no-text r e = record { found = λ h. absurd (omega arith) }
 
-  pub no-field : (r : Found) → r .next ≡ 0 → FieldFound read s at r
-  no-field r e = record { found = λ h. absurd (omega arith) }
+pub no-field : (read : List ℕ → Option ℕ) (s : List ℕ) (r : Found) → r .next ≡ 0 → FieldFound read s r
+no-field read s r e = record { found = λ h. absurd (omega arith) }
 
 pub not-closed : (s : List ℕ) (end cell : ℕ) (r : Found) → r .next ≡ 0 → Closed s end cell r
 not-closed s end cell r e = record { found = λ h. absurd (omega arith) }
@@ -238,26 +239,37 @@ opened NonEscaped.none e = rw e Opened.close
 opened (NonEscaped.text t n) e = Opened.text t (opened n e)
 
 module _ (read : List ℕ → Option ℕ) (s : List ℕ) (at : ℕ) where
-  pub is-plain : (r : Found) → TextFound read s at r → FieldFound read s at r
-  is-plain r w =
+  pub is-plain : (r : Found) → at ≡ 0 → TextFound read s at r → FieldFound read s r
+  is-plain r e w =
       record {
         found = λ p.
             let t = w .found p in
-            record { text = t .text; field = Field.non-escaped (t .runs); means = t .means; inside = t .inside };
+            record { text = t .text; field = Field.non-escaped (rw e at (t .runs)); means = t .means };
       }
 
   pub is-quoted :
-      (i r : Found) → at < length s → getD s at 0 ≡ DQUOTE → TextFound read s (at + 1) i →
-      Closed s (i .next) (i .cell) r → FieldFound read s at r
-  is-quoted i r h e w k =
+      (i r : Found) → 0 < length s → at ≡ one (eqb (getD s 0 0) DQUOTE) → (at ≡ 0 → ⊥) → TextFound read s at i →
+      Closed s (i .next) (i .cell) r → FieldFound read s r
+  is-quoted i r h q n w k =
       record {
         found = λ p.
             let (ends, some-end, inside, same-cell) = k .found p in
             let t = w .found some-end in
             record {
               text = t .text;
-              field = rw (drop-next 0 at s h, e) (Field.escaped (Escaped.dquote (opened (t .runs) ends)));
+              field = whole (t .text) _ (opened (t .runs) ends);
               means = t .means ∙ ap some (sym same-cell);
-              inside = inside;
             };
       }
+    where
+      quote : (b : Bool) → eqb (getD s 0 0) DQUOTE ≡ b → at ≡ one b → (getD s 0 0 ≡ DQUOTE) × (at ≡ 1)
+      quote true e z = (eqb-true _ _ e, z)
+      quote false e z = absurd (n z)
+
+      begins : (getD s 0 0 ≡ DQUOTE) × (at ≡ 1)
+      begins = quote (eqb (getD s 0 0) DQUOTE) refl q
+
+      whole : (v r : List ℕ) → Opened (drop at s) v r → Field s v r
+      whole v r o =
+          let parts : s ≡ DQUOTE ∷ drop at s = rw (begins .1) (drop-next 0 0 s h ∙ rw (begins .0)) in
+          rw parts (Field.escaped (Escaped.dquote o))

@@ -7,10 +7,11 @@ use mathlib.Core.List.{List, [], _∷_, _++_}
 use mathlib.Core.Option.{none, some}
 use native.Mathlib.Omega.{arith}
 use lib.Dec.{eqb, leb}
-use lib.ListN.{length, drop}
+use lib.ListN.{length, take, drop}
 use lib.Seq.{drop-at}
 use borrow.Author.Tests.{eq-eqb, le-leb}
 use Rattle.base.specs.Search.{first}
+use Rattle.base.proofs.Lists.{rest-lent}
 use Rattle.base.proofs.Tests.{same-refl}
 use Rattle.csv.specs.Grammar.{CR, LF, Record, File as Grammar·File}
 use Rattle.csv.specs.Reading.{rfc4180, records}
@@ -77,13 +78,13 @@ gave-up f s old new = record { found = λ h. absurd (omega arith) }
 
 module _ (f : File) (s old new : List ℕ) (start n : ℕ) where
   pub is-passed :
-      HeaderFound f s start → (start ≡ 0 → ⊥) → RowsFound f s start old new n → table f .fewestRows < n →
-      FilePassed f s old new n
+      HeaderFound f s start → (start ≡ 0 → ⊥) → RowsFound f (take (length s - start) (drop start s)) old new n →
+      table f .fewestRows < n → FilePassed f s old new n
   is-passed h z w l =
       record { found = λ p. rw (count p) (rows-read f s old new (shape p) (formed p) (is-laid p)) }
     where
-      all : 0 < n → AllRows f s start (n - 1) old new
-      all p = w .found p
+      all : 0 < n → AllRows f (drop start s) (n - 1) old new
+      all p = (rw (rest-lent start s) at w) .found p
 
       read : (p : 0 < n) → (rfc4180 s ≡ true) × (records s ≡ header f ∷ all p .values)
       read p = file-read (rows-file (h .found (omega arith)) crlf (all p .rows))

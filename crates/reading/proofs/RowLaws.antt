@@ -1,11 +1,15 @@
 -- Laws of rows at a place of a file: field by field, and row by row. Assumes nothing.
 use Prim.Native.Nat.{ℕ, suc, _+_, _-_, _*_, _≤_, _<_}
+use mathlib.Core.Bool.{Bool, true, false}
 use mathlib.Core.Path.{_≡_, refl, sym, _∙_, ap}
 use mathlib.Core.List.{List, [], _∷_, _++_, append-assoc, append-nil}
 use mathlib.Core.Option.{Option, some}
 use native.Mathlib.Omega.{arith}
 use native.Mathlib.Nat.{suc-mul}
 use native.Mathlib.Numerals.{add-one}
+use lib.Dec.{ltb}
+use borrow.Author.Tests.{lt-ltb, le-ltb}
+use Rattle.base.proofs.Tests.{false-true}
 use lib.ListN.{length, getD, take, drop, set, length-append, length-drop, length-set, take-append-drop}
 use lib.Seq.{take-suc, take-suc-set, drop-set-lt, getD-drop, drop-drop, take-append-add, drop-append-add, length-take-le}
 use Rattle.base.proofs.Lists.{drop-next, drop-end, rest-lent, rest-back}
@@ -37,12 +41,9 @@ use Rattle.reading.specs.Walk.{
   FieldFound,
   formOf,
   Ranges,
-  CommaFound,
-  EndFound,
-  Led,
+  Separates,
+  SeparatorFound,
   CellsOf,
-  Leading,
-  LeadFound,
   Rowed,
   RowFound,
   Rows,
@@ -54,32 +55,34 @@ use Rattle.reading.specs.declared.fields.Found.{Found}
 
 -- separators
 
-pub no-comma : (s : List ℕ) (at : ℕ) → CommaFound s at 0
-no-comma s at = record { found = λ h. absurd (omega arith) }
+pub no-separator : (s : List ℕ) (at : ℕ) (further : Bool) → SeparatorFound s at further 0
+no-separator s at further = record { found = λ h. absurd (omega arith) }
 
-pub is-comma :
-    (s : List ℕ) (at : ℕ) → (at ≡ 0 → ⊥) → at < length s → getD s at 0 ≡ COMMA → CommaFound s at (at + 1)
-is-comma s at n h e = record { found = λ z. (rw (drop-next 0 at s h, e), omega arith, omega arith) }
+module _ (s : List ℕ) (at : ℕ) (n : 0 < at) where
+  pub is-comma : at < length s → getD s at 0 ≡ COMMA → SeparatorFound s at true (at + 1)
+  is-comma h e = record { found = λ z. (rw (drop-next 0 at s h, e) Separates.comma, n, omega arith) }
 
-pub no-end : (s : List ℕ) (at : ℕ) → EndFound s at 0
-no-end s at = record { found = λ h. absurd (omega arith) }
+  pub is-end : length s ≤ at → SeparatorFound s at false (length s)
+  is-end h =
+      record {
+        found = λ z. (
+          rw (drop-end at s h, drop-end (length s) s (omega arith)) (Separates.end at-end),
+          n,
+          omega arith,
+        );
+      }
 
-pub is-end : (s : List ℕ) (at : ℕ) → (at ≡ 0 → ⊥) → length s ≤ at → EndFound s at (length s)
-is-end s at n h =
-    record { found = λ z. (rw (drop-end at s h, drop-end (length s) s (omega arith)) at-end, omega arith, omega arith) }
-
-pub is-crlf :
-    (s : List ℕ) (at : ℕ) → (at ≡ 0 → ⊥) → at + 1 < length s → getD s at 0 ≡ CR → getD s (at + 1) 0 ≡ LF →
-    EndFound s at (at + 2)
-is-crlf s at n h c l =
-    let two : at + 1 + 1 ≡ at + 2 = omega arith in
-    record {
-      found = λ z. (
-        rw (drop-next 0 at s (omega arith), c, drop-next 0 (at + 1) s h, l, two) crlf,
-        omega arith,
-        omega arith,
-      );
-    }
+  pub is-crlf :
+      at + 1 < length s → getD s at 0 ≡ CR → getD s (at + 1) 0 ≡ LF → SeparatorFound s at false (at + 2)
+  is-crlf h c l =
+      let two : at + 1 + 1 ≡ at + 2 = omega arith in
+      record {
+        found = λ z. (
+          rw (drop-next 0 at s (omega arith), c, drop-next 0 (at + 1) s h, l, two) (Separates.end crlf),
+          n,
+          omega arith,
+        );
+      }
 
 -- the code's tables at a column's place
 
@@ -102,6 +105,11 @@ module _ (fs ls ms : List ℕ) (t : Ranges fs ls ms) (i : ℕ) where
   range-value v =
       rw (t .forms, t .minima, t .maxima, form-at i, minimum-at i, maximum-at i, form-again (columnAt i .form))
 
+-- s is fields of some values, a COMMA behind each, and then r
+pub data Led : List ℕ → List (List ℕ) → List ℕ → Type 0 where
+  none : {s : List ℕ} → Led s [] s
+  more : {s v t r : List ℕ} {vs : List (List ℕ)} → Field s v (COMMA ∷ t) → Led t vs r → Led s (v ∷ vs) r
+
 -- one more field of a row
 
 led-more :
@@ -112,6 +120,17 @@ led-more (Led.more g l) f = Led.more g (led-more l f)
 led-last : {s t v r : List ℕ} {vs : List (List ℕ)} → Led s vs t → Field t v r → Record s (vs ++ v ∷ []) r
 led-last Led.none f = Record.last f
 led-last (Led.more g l) f = Record.more g (led-last l f)
+
+-- s is fields of some values, of which more follow or not, and then r
+pub data Parted (s : List ℕ) : Bool → List (List ℕ) → List ℕ → Type 0 where
+  still : {vs : List (List ℕ)} {r : List ℕ} → Led s vs r → Parted s true vs r
+  over : {vs : List (List ℕ)} {e r : List ℕ} → Record s vs e → Breaks e r → Parted s false vs r
+
+part-more :
+    {s t v u r : List ℕ} {more : Bool} {vs : List (List ℕ)} →
+    Parted s true vs t → Field t v u → Separates more u r → Parted s more (vs ++ v ∷ []) r
+part-more (still l) f Separates.comma = still (led-more l f)
+part-more (still l) f (Separates.end b) = over (led-last l f) b
 
 cells-more :
     (c : Column) (v : List ℕ) {cs : List Column} {vs : List (List ℕ)} {x : ℕ} {xs : List ℕ} →
@@ -138,144 +157,110 @@ next-column first c h =
 take-set : (l : List ℕ) (c v : ℕ) → c < length l → take (c + 1) (set l c v) ≡ take c l ++ v ∷ []
 take-set l c v h = rw add-one (take-suc-set l c v h)
 
--- a row of which c fields are laid down, each with its COMMA, and the next stands at i
-pub record LeadingTo (s : List ℕ) (at first last : ℕ) (old new : List ℕ) (i c : ℕ) : Type 0 where
-  pub upto : c ≤ last
-  pub fits : first + last < 17
-  pub room : last < length old
+-- a row of n columns of which c fields are laid down, and what follows them stands at i
+pub record LayingTo (s : List ℕ) (first n : ℕ) (old new : List ℕ) (i c : ℕ) : Type 0 where
+  pub upto : c ≤ n
+  pub fits : first + n ≤ 17
+  pub room : n ≤ length old
   pub same-length : length new ≡ length old
-  pub leads : Leading (take c (columnsFrom first)) s at i (take c new)
+  pub values : List (List ℕ)
+  pub parts : Parted s (ltb c n) values (drop i s)
+  pub cells : CellsOf (take c (columnsFrom first)) values (take c new)
   pub kept : drop c new ≡ drop c old
+  pub inside : i ≤ length s
 
-file-fits : (f : File) → firstColumn f + (width f - 1) < 17
+file-columns : (f : File) → (1 ≤ width f) × (firstColumn f + width f ≤ 17)
 unfolding width constraintColumns supplyColumns schedulesColumns
-file-fits Constraint = omega arith
-file-fits Supply = omega arith
-file-fits Schedules = omega arith
+file-columns Constraint = (omega arith, omega arith)
+file-columns Supply = (omega arith, omega arith)
+file-columns Schedules = (omega arith, omega arith)
 
-pub some-column : (f : File) → 1 ≤ width f
-unfolding width constraintColumns supplyColumns schedulesColumns
-some-column Constraint = omega arith
-some-column Supply = omega arith
-some-column Schedules = omega arith
-
-pub last-column : (f : File) (w first : ℕ) → w ≡ width f → first ≡ firstColumn f → (1 ≤ w) × (first + (w - 1) < 17)
-last-column f w first e d = rw (e, d) (some-column f, file-fits f)
-
-lead-columns : (f : File) → take (width f - 1) (columnsFrom (firstColumn f)) ≡ take (width f - 1) (table f .columns)
+whole-columns : (f : File) → take (width f) (columnsFrom (firstColumn f)) ≡ table f .columns
 unfolding columnsFrom width allColumns constraintColumns supplyColumns schedulesColumns
-lead-columns Constraint = refl
-lead-columns Supply = refl
-lead-columns Schedules = refl
-
-pub lead-none :
-    (f : File) (s : List ℕ) (at first w : ℕ) (old : List ℕ) → first ≡ firstColumn f → w ≡ width f → at ≤ length s →
-    w ≤ length old → LeadingTo s at first (w - 1) old old at 0
-lead-none f s at first w old e d h r =
-    record {
-      upto = omega arith;
-      fits = rw (e, d) (file-fits f);
-      room = omega (arith, some-column f);
-      same-length = refl;
-      leads = record { values = []; led = Led.none; cells = CellsOf.none; inside = h };
-      kept = refl;
-    }
-
-module _
-    (s : List ℕ) (at first last : ℕ) (old new : List ℕ) (i c : ℕ) (w : LeadingTo s at first last old new i c)
-  where
-    later-kept : (n x : ℕ) → c < n → drop n (set new c x) ≡ drop n old
-    later-kept n x h =
-        let e : c + (n - c) ≡ n = omega arith in
-        drop-set-lt n new c x h
-        ∙ (rw e at (sym (drop-drop (n - c) c new) ∙ ap (drop (n - c)) (w .kept) ∙ drop-drop (n - c) c old))
-
-    pub stored-length : (x : ℕ) → length (set new c x) ≡ length old
-    stored-length x = length-set new c x ∙ w .same-length
-
-    pub lead-next :
-        (fs ls ms : List ℕ) (r : Found) (j : ℕ) → c < last → Ranges fs ls ms →
-        FieldFound (inForm (formOf (getD fs (first + c) 0)) (getD ls (first + c) 0) (getD ms (first + c) 0)) s i r →
-        CommaFound s (r .next) j → (j ≡ 0 → ⊥) → LeadingTo s at first last old (set new c (r .cell)) j (c + 1)
-    lead-next fs ls ms r j h t q k n =
-        let (behind, some-next, inside) = k .found (omega arith) in
-        let d = q .found some-next in
-        record {
-          upto = omega arith;
-          fits = w .fits;
-          room = w .room;
-          same-length = stored-length (r .cell);
-          leads =
-              record {
-                values = w .leads .values ++ d .text ∷ [];
-                led = led-more (w .leads .led) (rw behind at (d .field));
-                cells =
-                    rw (next-column first c (omega (arith, w .fits)), take-set new c (r .cell) (omega (arith, w .room, w .same-length)))
-                    (cells-more (columnAt (first + c)) (d .text) (w .leads .cells) (sym (range-value fs ls ms t (first + c) (d .text)) ∙ d .means));
-                inside = inside;
-              };
-          kept = later-kept (c + 1) (r .cell) (omega arith);
-        }
-
-    pub lead-stopped :
-        (f : File) (x : ℕ) → last ≡ width f - 1 → c < last → LeadFound f s at old (set new c x) 0
-    lead-stopped f x e h =
-        record { found = λ z. absurd (omega arith); kept = later-kept (width f - 1) x (omega arith) }
-
-    pub lead-over :
-        (f : File) → first ≡ firstColumn f → last ≡ width f - 1 → last ≤ c → LeadFound f s at old new i
-    lead-over f e d h =
-        let over : c ≡ width f - 1 = omega (arith, w .upto) in
-        record {
-          found = λ z. rw (← lead-columns f, ← e, ← over) (w .leads);
-          kept = rw (← over) (w .kept);
-        }
-
-whole-columns :
-    (f : File) → table f .columns ≡ take (width f - 1) (table f .columns) ++ columnAt (firstColumn f + (width f - 1)) ∷ []
-unfolding width columnAt allColumns constraintColumns supplyColumns schedulesColumns
 whole-columns Constraint = refl
 whole-columns Supply = refl
 whole-columns Schedules = refl
 
-module _ (f : File) (s : List ℕ) (at : ℕ) (old new : List ℕ) (start : ℕ) (w : LeadFound f s at old new start) where
-  row-kept : drop (width f) new ≡ drop (width f) old
-  row-kept =
-      let e : width f - 1 + 1 ≡ width f = omega (arith, some-column f) in
-      rw e at (sym (drop-drop 1 (width f - 1) new) ∙ ap (drop 1) (w .kept) ∙ drop-drop 1 (width f - 1) old)
+pub laying-none :
+    (f : File) (s : List ℕ) (first n : ℕ) (old : List ℕ) → first ≡ firstColumn f → n ≡ width f → n ≤ length old →
+    LayingTo s first n old old 0 0
+laying-none f s first n old e d r =
+    record {
+      upto = omega arith;
+      fits = omega (arith, file-columns f);
+      room = r;
+      same-length = refl;
+      values = [];
+      parts = rw (lt-ltb 0 n (omega (arith, file-columns f))) (still Led.none);
+      cells = CellsOf.none;
+      kept = refl;
+      inside = omega arith;
+    }
 
-  pub no-row : RowFound f s at old new 0
-  no-row = record { found = λ h. absurd (omega arith); kept = row-kept }
+module _ (s : List ℕ) (first n : ℕ) (old new : List ℕ) (i c : ℕ) (w : LayingTo s first n old new i c) where
+  pub stored-length : (x : ℕ) → length (set new c x) ≡ length old
+  stored-length x = length-set new c x ∙ w .same-length
 
-  pub is-row :
-      (fs ls ms : List ℕ) (column last : ℕ) (r : Found) (next : ℕ) → (start ≡ 0 → ⊥) → width f ≤ length new →
-      column ≡ firstColumn f + (width f - 1) → last ≡ width f - 1 → Ranges fs ls ms →
-      FieldFound (inForm (formOf (getD fs column 0)) (getD ls column 0) (getD ms column 0)) s start r →
-      EndFound s (r .next) next → RowFound f s at old (set new last (r .cell)) next
-  is-row fs ls ms column last r next n room e d t q k =
-      rw d
-      (record {
-        found = λ h.
-            let (ends, some-next, inside) = k .found h in
-            let p = q .found some-next in
-            let l = w .found (omega arith) in
-            record {
-              values = l .values ++ p .text ∷ [];
-              ends = drop (r .next) s;
-              row = led-last (l .led) (p .field);
-              breaks = ends;
-              cells =
-                  rw (whole-columns f, ← e, all-cells)
-                  (cells-more (columnAt column) (p .text) (l .cells) (sym (range-value fs ls ms t column (p .text)) ∙ p .means));
-              inside = inside;
-            };
-        kept = drop-set-lt (width f) new (width f - 1) (r .cell) (omega (arith, some-column f)) ∙ row-kept;
-      })
-    where
-      all-cells : take (width f) (set new (width f - 1) (r .cell)) ≡ take (width f - 1) new ++ r .cell ∷ []
-      all-cells =
-          let z : width f - 1 + 1 ≡ width f = omega (arith, some-column f) in
-          rw z at (take-set new (width f - 1) (r .cell) (omega (arith, some-column f)))
+  pub laying-inside :
+      (at next : ℕ) (further : Bool) → SeparatorFound (take (length s - i) (drop i s)) at further next → (next ≡ 0 → ⊥) →
+      i + next ≤ length s
+  laying-inside at next further k z =
+      let (separates, some-next, inside) = (rw (rest-lent i s) at k) .found (omega arith) in
+      omega (arith, inside, w .inside, length-drop i s)
+
+  pub laying-next :
+      (fs ls ms : List ℕ) (r : Found) (next : ℕ) → c < n → Ranges fs ls ms →
+      FieldFound (inForm (formOf (getD fs (first + c) 0)) (getD ls (first + c) 0) (getD ms (first + c) 0))
+      (take (length s - i) (drop i s)) r →
+      SeparatorFound (take (length s - i) (drop i s)) (r .next) (ltb (c + 1) n) next → (next ≡ 0 → ⊥) →
+      LayingTo s first n old (set new c (r .cell)) (i + next) (c + 1)
+  laying-next fs ls ms r next h t q k z =
+      let (separates, some-next, inside) = (rw (rest-lent i s) at k) .found (omega arith) in
+      let d = (rw (rest-lent i s) at q) .found some-next in
+      record {
+        upto = omega arith;
+        fits = w .fits;
+        room = w .room;
+        same-length = stored-length (r .cell);
+        values = w .values ++ d .text ∷ [];
+        parts =
+            rw (← drop-drop next i s)
+            (part-more (rw (lt-ltb c n h) at (w .parts)) (d .field) separates);
+        cells =
+            rw (next-column first c (omega (arith, w .fits)), take-set new c (r .cell) (omega (arith, w .room, w .same-length)))
+            (cells-more (columnAt (first + c)) (d .text) (w .cells) (sym (range-value fs ls ms t (first + c) (d .text)) ∙ d .means));
+        kept =
+            drop-set-lt (c + 1) new c (r .cell) (omega arith)
+            ∙ sym (drop-drop 1 c new)
+            ∙ ap (drop 1) (w .kept)
+            ∙ drop-drop 1 c old;
+        inside = laying-inside (r .next) next (ltb (c + 1) n) k z;
+      }
+
+  parted-over : {b : Bool} {vs : List (List ℕ)} {r : List ℕ} → Parted s b vs r → b ≡ false → (e : List ℕ) × Record s vs e × Breaks e r
+  parted-over (still l) z = false-true (sym z)
+  parted-over (over {e = e} d b) z = (e, d, b)
+
+  pub laying-over : (f : File) → first ≡ firstColumn f → n ≡ width f → n ≤ c → RowFound f s old new i
+  laying-over f e d h =
+      let all : c ≡ width f = omega (arith, w .upto) in
+      let (ends, row, breaks) = parted-over (w .parts) (le-ltb c n h) in
+      record {
+        found = λ z. (
+          record {
+            values = w .values;
+            ends = ends;
+            row = row;
+            breaks = breaks;
+            cells = rw (← whole-columns f, ← e, ← all) (w .cells);
+            inside = w .inside;
+          },
+          rw (← all) (w .kept),
+        );
+      }
+
+pub no-row : (f : File) (s old new : List ℕ) → RowFound f s old new 0
+no-row f s old new = record { found = λ h. absurd (omega arith) }
 
 -- one more row
 
@@ -300,24 +285,24 @@ most-small Supply = omega arith
 most-small Schedules = omega arith
 
 -- k rows are laid down as far as `at`, and the next stands at i
-pub record Walked (f : File) (s : List ℕ) (start : ℕ) (old new : List ℕ) (i at k : ℕ) : Type 0 where
+pub record Walked (f : File) (s old new : List ℕ) (i at k : ℕ) : Type 0 where
   pub upto : k ≤ table f .mostRows
   pub room : at + (table f .mostRows - k) * width f ≤ length old
   pub same-length : length new ≡ length old
   pub values : List (List (List ℕ))
-  pub rows : Rows (drop start s) values (drop i s)
+  pub rows : Rows s values (drop i s)
   pub read : RowsOf (table f .columns) values (take at new)
   pub counted : k ≡ length values
   pub kept : drop at new ≡ drop at old
   pub inside : i ≤ length s
 
-pub no-rows : (f : File) (s : List ℕ) (start : ℕ) (old new : List ℕ) → RowsFound f s start old new 0
-no-rows f s start old new = record { found = λ h. absurd (omega arith) }
+pub no-rows : (f : File) (s old new : List ℕ) → RowsFound f s old new 0
+no-rows f s old new = record { found = λ h. absurd (omega arith) }
 
-module _ (f : File) (s : List ℕ) (start : ℕ) (old : List ℕ) where
-  pub walked-none : start ≤ length s → room f ≤ length old → Walked f s start old old start 0 0
+module _ (f : File) (s old : List ℕ) where
+  pub walked-none : room f ≤ length old → Walked f s old old 0 0 0
   unfolding room
-  walked-none h r =
+  walked-none r =
       record {
         upto = omega arith;
         room = rw whole r;
@@ -327,7 +312,7 @@ module _ (f : File) (s : List ℕ) (start : ℕ) (old : List ℕ) where
         read = RowsOf.none;
         counted = refl;
         kept = refl;
-        inside = h;
+        inside = omega arith;
       }
     where
       whole : 0 + (table f .mostRows - 0) * width f ≡ table f .mostRows * width f
@@ -340,17 +325,25 @@ module _ (f : File) (s : List ℕ) (start : ℕ) (old : List ℕ) where
       let e : n - k ≡ suc (n - (k + 1)) = omega arith in
       rw (e, suc-mul (n - (k + 1)) (width f)) (omega arith)
 
-  module _ (new : List ℕ) (i at k : ℕ) (w : Walked f s start old new i at k) where
+  module _ (new : List ℕ) (i at k : ℕ) (w : Walked f s old new i at k) where
     -- there is room for one more
     pub walked-room : k < table f .mostRows → at + width f ≤ length new
     walked-room h = omega (arith, w .room, w .same-length, rows-left (table f .mostRows) k h)
 
+    pub walked-inside :
+        (now : List ℕ) (next : ℕ) →
+        RowFound f (take (length s - i) (drop i s)) (take (length new - at) (drop at new)) now next → (next ≡ 0 → ⊥) →
+        i + next ≤ length s
+    walked-inside now next q n =
+        let (r, same-behind) = (rw (rest-lent i s) at q) .found (omega arith) in
+        omega (arith, r .inside, w .inside, length-drop i s)
+
     walked-next :
-        (now : List ℕ) (next : ℕ) → k < table f .mostRows → i < length s → RowFound f s i (drop at new) now next →
+        (now : List ℕ) (next : ℕ) → k < table f .mostRows → i < length s → RowFound f (drop i s) (drop at new) now next →
         (next ≡ 0 → ⊥) → length now ≡ length (drop at new) →
-        Walked f s start old (take at new ++ now) next (at + width f) (k + 1)
+        Walked f s old (take at new ++ now) (i + next) (at + width f) (k + 1)
     walked-next now next h l q n e =
-        let r = q .found (omega arith) in
+        let (r, same-behind) = q .found (omega arith) in
         record {
           upto = omega arith;
           room = omega (arith, w .room, rows-left (table f .mostRows) k h);
@@ -358,11 +351,13 @@ module _ (f : File) (s : List ℕ) (start : ℕ) (old : List ℕ) where
               length-append (take at new) now
               ∙ (omega (arith, e, length-drop at new, front, walked-room h, w .same-length));
           values = w .values ++ r .values ∷ [];
-          rows = rows-more (rw (drop-next 0 i s l) at (w .rows)) (rw (drop-next 0 i s l) at (r .row)) (r .breaks);
+          rows =
+              rw (← drop-drop next i s)
+              (rows-more (rw (drop-next 0 i s l) at (w .rows)) (rw (drop-next 0 i s l) at (r .row)) (r .breaks));
           read = rw taken (rows-of-more (w .read) (r .cells));
           counted = omega (arith, w .counted, length-append (w .values) (r .values ∷ []));
-          kept = dropped ∙ q .kept ∙ drop-drop (width f) at new ∙ later;
-          inside = r .inside;
+          kept = dropped ∙ same-behind ∙ drop-drop (width f) at new ∙ later;
+          inside = omega (arith, r .inside, w .inside, length-drop i s);
         }
       where
         front : length (take at new) ≡ at
@@ -380,14 +375,14 @@ module _ (f : File) (s : List ℕ) (start : ℕ) (old : List ℕ) where
     -- the next row, as lending the rest of the cells has it
     pub walked-turn :
         (now : List ℕ) (next columns : ℕ) → columns ≡ width f → k < table f .mostRows → i < length s →
-        RowFound f s i (take (length new - at) (drop at new)) now next → (next ≡ 0 → ⊥) →
+        RowFound f (take (length s - i) (drop i s)) (take (length new - at) (drop at new)) now next → (next ≡ 0 → ⊥) →
         length now ≡ length (take (length new - at) (drop at new)) →
-        Walked f s start old (take at new ++ (now ++ drop (length new - at) (drop at new))) next (at + columns) (k + 1)
+        Walked f s old (take at new ++ (now ++ drop (length new - at) (drop at new))) (i + next) (at + columns) (k + 1)
     walked-turn now next columns c h l q n e =
         rw (c, rest-back at new, append-nil now)
-        (walked-next now next h l (rw (rest-lent at new) at q) n (rw (rest-lent at new) at e))
+        (walked-next now next h l (rw (rest-lent at new, rest-lent i s) at q) n (rw (rest-lent at new) at e))
 
-    pub walked-over : length s ≤ i → RowsFound f s start old new (k + 1)
+    pub walked-over : length s ≤ i → RowsFound f s old new (k + 1)
     walked-over h =
         record {
           found = λ z. record {

@@ -1,12 +1,12 @@
 -- What the steps of the one pass promise, by the grammar of RFC 4180: of a run of digits, a field, a row, the rows and the
--- header at a place of a file. A step that gives up answers 0, and promises nothing. Assumes nothing.
+-- header at the start of a part of a file. A step that gives up answers 0, and promises nothing. Assumes nothing.
 use Prim.Native.Nat.{ℕ, _+_, _-_, _≤_, _<_}
 use mathlib.Core.Path.{_≡_}
-use mathlib.Core.Bool.{cond}
+use mathlib.Core.Bool.{Bool, true, false, cond}
 use mathlib.Core.List.{List, [], _∷_, _++_}
 use mathlib.Core.Option.{Option, some}
 use lib.Dec.{eqb}
-use lib.ListN.{length, getD, take, drop}
+use lib.ListN.{length, take, drop}
 use Rattle.csv.specs.Grammar.{COMMA, CR, DQUOTE, LF, NonEscaped, Field, Record}
 use Rattle.csv.proofs.Walk.{Breaks}
 use Rattle.numeral.specs.Numeral.{Digits}
@@ -36,15 +36,14 @@ pub record Texted (read : List ℕ → Option ℕ) (s : List ℕ) (at next cell 
 pub record TextFound (read : List ℕ → Option ℕ) (s : List ℕ) (at : ℕ) (r : Found) : Type 0 where
   pub found : 0 < r .next → Texted read s at (r .next) (r .cell)
 
--- a field of one cell from a place on
-pub record Fielded (read : List ℕ → Option ℕ) (s : List ℕ) (at next cell : ℕ) : Type 0 where
+-- a field of one cell at the start of s
+pub record Fielded (read : List ℕ → Option ℕ) (s : List ℕ) (next cell : ℕ) : Type 0 where
   pub text : List ℕ
-  pub field : Field (drop at s) text (drop next s)
+  pub field : Field s text (drop next s)
   pub means : read text ≡ some cell
-  pub inside : next ≤ length s
 
-pub record FieldFound (read : List ℕ → Option ℕ) (s : List ℕ) (at : ℕ) (r : Found) : Type 0 where
-  pub found : 0 < r .next → Fielded read s at (r .next) (r .cell)
+pub record FieldFound (read : List ℕ → Option ℕ) (s : List ℕ) (r : Found) : Type 0 where
+  pub found : 0 < r .next → Fielded read s (r .next) (r .cell)
 
 -- behind the quote at the end of a text
 pub record Closed (s : List ℕ) (end cell : ℕ) (r : Found) : Type 0 where
@@ -60,18 +59,14 @@ pub record Ranges (fs ls ms : List ℕ) : Type 0 where
   pub minima : ls ≡ allMinima
   pub maxima : ms ≡ allMaxima
 
--- behind a COMMA at a place
-pub record CommaFound (s : List ℕ) (at next : ℕ) : Type 0 where
-  pub found : 0 < next → (drop at s ≡ COMMA ∷ drop next s) × (0 < at) × (next ≤ length s)
+-- what stands between a field and the next of its record, or behind the record's last: r follows it
+pub data Separates : Bool → List ℕ → List ℕ → Type 0 where
+  comma : {r : List ℕ} → Separates true (COMMA ∷ r) r
+  end : {e r : List ℕ} → Breaks e r → Separates false e r
 
--- behind a record's end at a place
-pub record EndFound (s : List ℕ) (at next : ℕ) : Type 0 where
-  pub found : 0 < next → Breaks (drop at s) (drop next s) × (0 < at) × (next ≤ length s)
-
--- s is fields of some values, a COMMA behind each, and then r
-pub data Led : List ℕ → List (List ℕ) → List ℕ → Type 0 where
-  none : {s : List ℕ} → Led s [] s
-  more : {s v t r : List ℕ} {vs : List (List ℕ)} → Field s v (COMMA ∷ t) → Led t vs r → Led s (v ∷ vs) r
+-- behind a separator at a place
+pub record SeparatorFound (s : List ℕ) (at : ℕ) (more : Bool) (next : ℕ) : Type 0 where
+  pub found : 0 < next → Separates more (drop at s) (drop next s) × (0 < at) × (next ≤ length s)
 
 -- the values of a row beside their cells
 pub data CellsOf : List Column → List (List ℕ) → List ℕ → Type 0 where
@@ -80,29 +75,17 @@ pub data CellsOf : List Column → List (List ℕ) → List ℕ → Type 0 where
       {c : Column} {cs : List Column} {v : List ℕ} {vs : List (List ℕ)} {x : ℕ} {xs : List ℕ} →
       value c v ≡ some x → CellsOf cs vs xs → CellsOf (c ∷ cs) (v ∷ vs) (x ∷ xs)
 
--- the fields of a row but the last, from a place on
-pub record Leading (cs : List Column) (s : List ℕ) (at next : ℕ) (xs : List ℕ) : Type 0 where
-  pub values : List (List ℕ)
-  pub led : Led (drop at s) values (drop next s)
-  pub cells : CellsOf cs values xs
-  pub inside : next ≤ length s
-
-pub record LeadFound (f : File) (s : List ℕ) (at : ℕ) (old new : List ℕ) (next : ℕ) : Type 0 where
-  pub found : 0 < next → Leading (take (width f - 1) (table f .columns)) s at next (take (width f - 1) new)
-  pub kept : drop (width f - 1) new ≡ drop (width f - 1) old
-
--- a row from a place on
-pub record Rowed (f : File) (s : List ℕ) (at next : ℕ) (xs : List ℕ) : Type 0 where
+-- a row at the start of s
+pub record Rowed (f : File) (s : List ℕ) (next : ℕ) (xs : List ℕ) : Type 0 where
   pub values : List (List ℕ)
   pub ends : List ℕ
-  pub row : Record (drop at s) values ends
+  pub row : Record s values ends
   pub breaks : Breaks ends (drop next s)
   pub cells : CellsOf (table f .columns) values xs
   pub inside : next ≤ length s
 
-pub record RowFound (f : File) (s : List ℕ) (at : ℕ) (old new : List ℕ) (next : ℕ) : Type 0 where
-  pub found : 0 < next → Rowed f s at next (take (width f) new)
-  pub kept : drop (width f) new ≡ drop (width f) old
+pub record RowFound (f : File) (s old new : List ℕ) (next : ℕ) : Type 0 where
+  pub found : 0 < next → Rowed f s next (take (width f) new) × (drop (width f) new ≡ drop (width f) old)
 
 -- s is records of some values, and then r
 pub data Rows : List ℕ → List (List (List ℕ)) → List ℕ → Type 0 where
@@ -118,19 +101,19 @@ pub data RowsOf (cs : List Column) : List (List (List ℕ)) → List ℕ → Typ
       {v : List (List ℕ)} {vs : List (List (List ℕ))} {x xs : List ℕ} →
       CellsOf cs v x → RowsOf cs vs xs → RowsOf cs (v ∷ vs) (x ++ xs)
 
--- all rows of a file, from a place on
-pub record AllRows (f : File) (s : List ℕ) (start count : ℕ) (old new : List ℕ) : Type 0 where
+-- all rows of a file, where s begins with the first
+pub record AllRows (f : File) (s : List ℕ) (count : ℕ) (old new : List ℕ) : Type 0 where
   pub values : List (List (List ℕ))
   pub cells : List ℕ
-  pub rows : Rows (drop start s) values []
+  pub rows : Rows s values []
   pub read : RowsOf (table f .columns) values cells
   pub laid : new ≡ cells ++ drop (length cells) old
   pub counted : count ≡ length values
   pub most : count ≤ table f .mostRows
 
 -- rows by the number of the file's records, the header's included
-pub record RowsFound (f : File) (s : List ℕ) (start : ℕ) (old new : List ℕ) (records : ℕ) : Type 0 where
-  pub found : 0 < records → AllRows f s start (records - 1) old new
+pub record RowsFound (f : File) (s old new : List ℕ) (records : ℕ) : Type 0 where
+  pub found : 0 < records → AllRows f s (records - 1) old new
 
 -- where the one of two texts that s begins with ends
 pub data Begins (s a b : List ℕ) : ℕ → Type 0 where

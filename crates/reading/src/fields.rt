@@ -1,7 +1,9 @@
-// One field at a place of a file, from its first byte to its cell in one go.
+// One field as a part of a file that begins where the field begins, read to its cell in one go.
 ghost use mathlib.Core.Path.{_≡_};
 ghost use Prim.Native.Nat.{_+_, _<_, _≤_, _^_};
+ghost use lib.Dec.{eqb};
 ghost use lib.ListN.{length, getD};
+ghost use Rattle.base.specs.Search.{one};
 ghost use mathlib.Core.Bool.{false};
 ghost use Rattle.tables.specs.Table.{numeral as Form·numeral, signed as Form·signed, letter as Form·letter};
 ghost use Rattle.tables.specs.Values.{inForm};
@@ -32,19 +34,30 @@ pub struct Found {
     pub cell: u64,
 }
 
-// The field at a place, in quotes or not.
-pub fn field(form: u8, minimum: u64, maximum: u64, s: &[u8], at: usize) -> Found
+// The field at the start of `s`, in quotes or not.
+pub fn field(form: u8, minimum: u64, maximum: u64, s: &[u8]) -> Found
     requires { ⌜ minimum + maximum < 2 ^ 64 ⌝ }
-    ensures { λ r. ⌜ FieldFound (inForm (formOf form) minimum maximum) (now (s .entry)) at r ⌝ }
+    ensures { λ r. ⌜ FieldFound (inForm (formOf form) minimum maximum) (now (s .entry)) r ⌝ }
 {
-    if s.len() <= at {
+    if s.len() == 0 {
         return given_up();
     }
-    if s[at] == DQUOTE {
-        let inside = text(form, minimum, maximum, s, at + 1);
-        return closed(s, inside.next, inside.cell);
+    let at = quote_length(s[0]);
+    let inside = text(form, minimum, maximum, s, at);
+    if at == 0 {
+        return inside;
     }
-    text(form, minimum, maximum, s, at)
+    closed(s, inside.next, inside.cell)
+}
+
+// 1 where a field that begins with the byte is in quotes, else 0.
+fn quote_length(b: u8) -> usize
+    ensures { λ r. ⌜ r ≡ one (eqb b 0x22) ⌝ }
+{
+    if b == DQUOTE {
+        return 1;
+    }
+    0
 }
 
 fn given_up() -> Found

@@ -1,11 +1,12 @@
-// Rows at a place of a file, and the separators behind their fields. A place of 0 says that a step
-// was given up: no row begins a file.
+// Rows as parts of a file that begin where the row begins, each field handed on as the part that
+// begins with it, and the separators behind fields. A place of 0 says that a step was given up.
 ghost use mathlib.Core.Path.{_≡_};
+ghost use mathlib.Core.Bool.{true, false};
 ghost use Prim.Native.Nat.{_≤_, _<_};
 ghost use lib.ListN.{length};
 ghost use Rattle.tables.specs.Table.{width as Table·width};
 ghost use Rattle.tables.specs.Laying.{room};
-ghost use Rattle.reading.specs.Walk.{Ranges, CommaFound, EndFound, LeadFound, RowFound, RowsFound};
+ghost use Rattle.reading.specs.Walk.{Ranges, SeparatorFound, RowFound, RowsFound};
 use crate::fields::field;
 use tables::File;
 use tables::first_column;
@@ -18,11 +19,10 @@ const CR: u8 = 0x0D;
 
 const COMMA: u8 = 0x2C;
 
-// Lays down the rows from a place to the file's end, and answers how many records the file has.
+// Lays down the rows of `s`, to the file's end, and answers how many records the file has.
 pub fn lay_rows(
     file: File,
     s: &[u8],
-    start: usize,
     forms: &[u8],
     minima: &[u64],
     maxima: &[u64],
@@ -30,33 +30,32 @@ pub fn lay_rows(
 ) -> usize
     requires { ⌜ Ranges (now forms) (now minima) (now maxima) ⌝ }
     requires { ⌜ room file ≤ length (now cells) ⌝ }
-    requires { ⌜ start ≤ length (now s) ⌝ }
-    ensures { λ r. ⌜ RowsFound file (now (s .entry)) start (now (cells .entry)) (now (cells .exit)) r ⌝ }
+    ensures { λ r. ⌜ RowsFound file (now (s .entry)) (now (cells .entry)) (now (cells .exit)) r ⌝ }
 {
     let columns = width(file);
     let most = most_rows(file);
-    let mut i = start;
+    let mut i = 0;
     let mut at = 0;
     let mut k = 0;
     while i < s.len() {
         if most <= k {
             return 0;
         }
-        i = lay_row(file, s, i, forms, minima, maxima, &mut cells[at..]);
-        if i == 0 {
+        let next = lay_row(file, &s[i..], forms, minima, maxima, &mut cells[at..]);
+        if next == 0 {
             return 0;
         }
+        i += next;
         at += columns;
         k += 1;
     }
     k + 1
 }
 
-// Lays down the row at a place, and answers where what follows it begins.
+// Lays down the row at the start of `s`, and answers where what follows it begins.
 fn lay_row(
     file: File,
     s: &[u8],
-    at: usize,
     forms: &[u8],
     minima: &[u64],
     maxima: &[u64],
@@ -64,59 +63,44 @@ fn lay_row(
 ) -> usize
     requires { ⌜ Ranges (now forms) (now minima) (now maxima) ⌝ }
     requires { ⌜ Table·width file ≤ length (now out) ⌝ }
-    requires { ⌜ at ≤ length (now s) ⌝ }
-    ensures { λ r. ⌜ RowFound file (now (s .entry)) at (now (out .entry)) (now (out .exit)) r ⌝ }
-{
-    let start = lay_lead(file, s, at, forms, minima, maxima, out);
-    if start == 0 {
-        return 0;
-    }
-    let last = width(file) - 1;
-    let column = first_column(file) + last;
-    let found = field(forms[column], minima[column], maxima[column], s, start);
-    out[last] = found.cell;
-    record_end(s, found.next)
-}
-
-// Lays down the fields of a row but the last, and answers where the last begins.
-fn lay_lead(
-    file: File,
-    s: &[u8],
-    at: usize,
-    forms: &[u8],
-    minima: &[u64],
-    maxima: &[u64],
-    out: &mut [u64],
-) -> usize
-    requires { ⌜ Ranges (now forms) (now minima) (now maxima) ⌝ }
-    requires { ⌜ Table·width file ≤ length (now out) ⌝ }
-    requires { ⌜ at ≤ length (now s) ⌝ }
-    ensures { λ r. ⌜ LeadFound file (now (s .entry)) at (now (out .entry)) (now (out .exit)) r ⌝ }
+    ensures { λ r. ⌜ RowFound file (now (s .entry)) (now (out .entry)) (now (out .exit)) r ⌝ }
 {
     let first = first_column(file);
-    let last = width(file) - 1;
-    let mut i = at;
+    let columns = width(file);
+    let mut i = 0;
     let mut c = 0;
-    while c < last {
+    while c < columns {
         let column = first + c;
-        let found = field(forms[column], minima[column], maxima[column], s, i);
+        let rest = &s[i..];
+        let found = field(forms[column], minima[column], maxima[column], rest);
         out[c] = found.cell;
-        i = comma(s, found.next);
-        if i == 0 {
+        c += 1;
+        let next = separator(rest, found.next, c < columns);
+        if next == 0 {
             return 0;
         }
-        c += 1;
+        i += next;
     }
     i
 }
 
-// Behind the COMMA at a place.
-fn comma(s: &[u8], at: usize) -> usize
-    ensures { λ r. ⌜ CommaFound (now (s .entry)) at r ⌝ }
+// Behind the separator at a place: a COMMA where more fields of the record follow, else its end.
+fn separator(s: &[u8], at: usize, more: bool) -> usize
+    ensures { λ r. ⌜ SeparatorFound (now (s .entry)) at more r ⌝ }
 {
     if at == 0 {
         return 0;
     }
+    if more {
+        return comma_end(s, at);
+    }
+    record_end(s, at)
+}
+
+fn comma_end(s: &[u8], at: usize) -> usize
+    requires { ⌜ 0 < at ⌝ }
+    ensures { λ r. ⌜ SeparatorFound (now (s .entry)) at true r ⌝ }
+{
     if s.len() <= at {
         return 0;
     }
@@ -126,13 +110,11 @@ fn comma(s: &[u8], at: usize) -> usize
     at + 1
 }
 
-// Behind the record's end at a place: CR LF, or the file's end.
+// Behind CR LF, or at the file's end.
 fn record_end(s: &[u8], at: usize) -> usize
-    ensures { λ r. ⌜ EndFound (now (s .entry)) at r ⌝ }
+    requires { ⌜ 0 < at ⌝ }
+    ensures { λ r. ⌜ SeparatorFound (now (s .entry)) at false r ⌝ }
 {
-    if at == 0 {
-        return 0;
-    }
     let end = s.len();
     if end <= at {
         return end;

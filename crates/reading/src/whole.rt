@@ -38,7 +38,7 @@ fn pass(file: File, s: &[u8], cells: &mut [u64]) -> usize
     let forms = FORM;
     let minima = MINIMUM;
     let maxima = MAXIMUM;
-    let records = lay_rows(file, s, start, &forms, &minima, &maxima, cells);
+    let records = lay_rows(file, &s[start..], &forms, &minima, &maxima, cells);
     if records <= fewest_rows(file) {
         return 0;
     }

@@ -1,5 +1,8 @@
 -- A field in quotes or not. Assumes nothing.
 use native.Mathlib.Omega.{arith}
+use lib.Dec.{eqb}
+use lib.ListN.{getD}
+use Rattle.base.proofs.Searches.{one-le}
 use Rattle.reading.proofs.FieldLaws.{no-field, is-plain, is-quoted}
 use borrow.Author.Needs.{needs}
 use Rattle.reading.proofs.fields.field.Statement.{statement}
@@ -9,28 +12,25 @@ given-up-requires : tie.Need-given-up-requires
 given-up-requires c κs = search needs
 
 returns : tie.Need-returns
-returns c = no-field _ _ _ _ (omega arith)
+returns c = no-field _ _ _ (omega arith)
 
-shared-slice-read-if2 : tie.Need-shared-slice-read-if2
-shared-slice-read-if2 c = search needs
+shared-slice-read-quote-length : tie.Need-shared-slice-read-quote-length
+shared-slice-read-quote-length c = search needs
 
-add-text : tie.Need-add-text
-add-text c = search needs
+quote-length-requires : tie.Need-quote-length-requires
+quote-length-requires c κs = search needs
 
 text-requires : tie.Need-text-requires
-text-requires c κs = search needs
+text-requires c κs = (omega arith, omega (arith, c .quote-length .ensures, one-le (eqb (getD (c .before .before .before .before .args .s .now) 0 0) 0x22)))
+
+returns-2 : tie.Need-returns-2
+returns-2 c = is-plain _ _ _ _ (omega arith) (c .before .text .ensures)
 
 closed-requires : tie.Need-closed-requires
 closed-requires c κs = search needs
 
-returns-2 : tie.Need-returns-2
-returns-2 c = is-quoted _ _ _ _ _ (omega arith) (omega arith) (c .before .text .ensures) (c .closed .ensures)
-
-text-requires-2 : tie.Need-text-requires-2
-text-requires-2 c κs = search needs
-
 returns-3 : tie.Need-returns-3
-returns-3 c = is-plain _ _ _ _ (c .text2 .ensures)
+returns-3 c = is-quoted _ _ _ _ _ (omega arith) (c .before .before .before .quote-length .ensures) (c .before .if2 .left) (c .before .before .text .ensures) (c .closed .ensures)
 
 pub field-spec : {M : Type 1} → statement M
 field-spec =
@@ -38,10 +38,9 @@ field-spec =
     (tie.spec
     given-up-requires
     returns
-    shared-slice-read-if2
-    add-text
+    shared-slice-read-quote-length
+    quote-length-requires
     text-requires
-    closed-requires
     returns-2
-    text-requires-2
+    closed-requires
     returns-3)

@@ -33,13 +33,13 @@ loop-less : tie.Need-loop-less Inv-loop μ-loop
 loop-less c = omega arith
 
 loop-again : tie.Need-loop-again Inv-loop μ-loop
-loop-again c = linking-next _ _ _ _ _ _ _ (c .before .before .before .before .before .before .before .loop .inv) (omega arith) (c .before .before .before .before .unit-key .ensures .0 ∙ rw (c .before .before .before .before .before .cell .ensures)) (omega arith) _ (c .before .before .link .ensures)
+loop-again c = linking-next _ _ _ _ _ _ _ (c .before .before .before .before .before .before .before .loop .inv) (c .before .before .before .before .before .before .loop-test .taken) (c .before .before .before .before .unit-key .ensures .0 ∙ rw (c .before .before .before .before .before .cell .ensures)) (omega arith) _ (c .before .before .link .ensures)
 
 same-length : tie.Need-same-length Inv-loop μ-loop
 same-length c = c .before .loop .inv .same-length
 
 returns : tie.Need-returns Inv-loop μ-loop
-returns c = linking-over _ _ _ _ _ _ (c .before .loop .inv) (omega arith)
+returns c = linking-over _ _ _ _ _ _ (c .before .loop .inv) (c .loop-test .left)
 
 pub link-units-spec : {M : Type 1} → statement M
 link-units-spec =

@@ -29,7 +29,7 @@ at-odds-requires : tie.Need-at-odds-requires Inv-loop μ-loop
 at-odds-requires c κs = omega arith
 
 returns : tie.Need-returns Inv-loop μ-loop
-returns c = along-here _ _ _ _ (c .before .before .before .loop .inv) (omega arith) (sym (c .before .at-odds .ensures) ∙ c .if1 .taken) ∙ sym (earlier-any _ _ _)
+returns c = along-here _ _ _ _ (c .before .before .before .loop .inv) (c .before .before .loop-test .taken) (sym (c .before .at-odds .ensures) ∙ c .if1 .taken) ∙ sym (earlier-any _ _ _)
 
 mul-left-2 : tie.Need-mul-left-2 Inv-loop μ-loop
 mul-left-2 c = omega arith
@@ -38,13 +38,13 @@ shared-slice-read-left-2 : tie.Need-shared-slice-read-left-2 Inv-loop μ-loop
 shared-slice-read-left-2 c = omega arith
 
 loop-less : tie.Need-loop-less Inv-loop μ-loop
-loop-less c = along-less _ _ _ _ (c .before .before .before .before .loop .inv) (omega arith)
+loop-less c = along-less _ _ _ _ (c .before .before .before .before .loop .inv) (c .before .before .before .loop-test .taken)
 
 loop-again : tie.Need-loop-again Inv-loop μ-loop
-loop-again c = along-next _ _ _ _ (c .before .before .before .before .loop .inv) (omega arith) (sym (c .before .before .at-odds .ensures) ∙ c .before .if1 .left)
+loop-again c = along-next _ _ _ _ (c .before .before .before .before .loop .inv) (c .before .before .before .loop-test .taken) (sym (c .before .before .at-odds .ensures) ∙ c .before .if1 .left)
 
 returns-2 : tie.Need-returns-2 Inv-loop μ-loop
-returns-2 c = along-over _ _ _ _ (c .before .loop .inv) (omega arith) ∙ sym (earlier-any _ _ _)
+returns-2 c = along-over _ _ _ _ (c .before .loop .inv) (c .loop-test .left) ∙ sym (earlier-any _ _ _)
 
 pub at-odds-along-spec : {M : Type 1} → statement M
 at-odds-along-spec =

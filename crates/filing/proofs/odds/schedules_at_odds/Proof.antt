@@ -22,7 +22,7 @@ add-result : tie.Need-add-result Inv-loop μ-loop
 add-result c = omega arith
 
 returns : tie.Need-returns Inv-loop μ-loop
-returns c = agreeing-here _ _ _ _ (c .before .before .before .loop .inv) (omega arith) (c .before .at-odds-before .ensures) _ (c .if1 .taken) (omega arith)
+returns c = agreeing-here _ _ _ _ (c .before .before .before .loop .inv) (c .before .before .loop-test .taken) (c .before .at-odds-before .ensures) _ (c .if1 .taken) (omega arith)
 
 add-k : tie.Need-add-k Inv-loop μ-loop
 add-k c = omega arith
@@ -31,10 +31,10 @@ loop-less : tie.Need-loop-less Inv-loop μ-loop
 loop-less c = omega arith
 
 loop-again : tie.Need-loop-again Inv-loop μ-loop
-loop-again c = agreeing-next _ _ _ _ (c .before .before .before .loop .inv) (omega arith) (c .before .at-odds-before .ensures) (c .if1 .left)
+loop-again c = agreeing-next _ _ _ _ (c .before .before .before .loop .inv) (c .before .before .loop-test .taken) (c .before .at-odds-before .ensures) (c .if1 .left)
 
 returns-2 : tie.Need-returns-2 Inv-loop μ-loop
-returns-2 c = agreeing-over _ _ _ (c .before .loop .inv) (omega arith)
+returns-2 c = agreeing-over _ _ _ (c .before .loop .inv) (c .loop-test .left)
 
 pub schedules-at-odds-spec : {M : Type 1} → statement M
 schedules-at-odds-spec =

@@ -28,7 +28,7 @@ lacks-requires c κs = let pre = c .before .before .before .before .before .befo
 
 returns : tie.Need-returns Inv-loop μ-loop
 unfolding lacking
-returns c = finding-here _ _ _ _ _ _ (c .before .before .before .before .loop .inv) (omega arith) (omega arith) (c .before .lacks .ensures) (c .if1 .taken)
+returns c = finding-here _ _ _ _ _ _ (c .before .before .before .before .loop .inv) (c .before .before .before .loop-test .taken) (omega arith) (c .before .lacks .ensures) (c .if1 .taken)
 
 add-i : tie.Need-add-i Inv-loop μ-loop
 add-i c = omega arith
@@ -37,11 +37,11 @@ loop-less : tie.Need-loop-less Inv-loop μ-loop
 loop-less c = omega arith
 
 loop-again : tie.Need-loop-again Inv-loop μ-loop
-loop-again c = finding-next _ _ _ _ _ _ (c .before .before .before .before .loop .inv) (omega arith) (omega arith) (c .before .lacks .ensures) (c .if1 .left)
+loop-again c = finding-next _ _ _ _ _ _ (c .before .before .before .before .loop .inv) (c .before .before .before .loop-test .taken) (omega arith) (c .before .lacks .ensures) (c .if1 .left)
 
 returns-2 : tie.Need-returns-2 Inv-loop μ-loop
 unfolding lacking
-returns-2 c = finding-over _ _ _ _ (c .before .loop .inv) (omega arith)
+returns-2 c = finding-over _ _ _ _ (c .before .loop .inv) (c .loop-test .left)
 
 pub lacking-spec : {M : Type 1} → statement M
 lacking-spec =

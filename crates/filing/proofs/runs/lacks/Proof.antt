@@ -40,7 +40,7 @@ stops-requires : tie.Need-stops-requires Inv-loop μ-loop
 stops-requires c κs = let pre = c .before .before .before .before .before .before .before .pre in (pre .0, (pre .1 .1 .0, (omega arith, (pre .1 .1 .1 .hour, row-has _ _ _ (pre .1 .1 .1 .ranges) (omega arith)))))
 
 returns : tie.Need-returns Inv-loop μ-loop
-returns c = along-here _ _ _ _ (c .before .before .before .loop .inv) (omega arith) (sym (c .before .stops .ensures) ∙ c .if1 .taken) ∙ sym (rows-any _ _ _) ∙ sym (lacks-by-stops _ _ _ (c .before .before .before .before .before .before .before .before .before .pre .1 .1 .1))
+returns c = along-here _ _ _ _ (c .before .before .before .loop .inv) (c .before .before .loop-test .taken) (sym (c .before .stops .ensures) ∙ c .if1 .taken) ∙ sym (rows-any _ _ _) ∙ sym (lacks-by-stops _ _ _ (c .before .before .before .before .before .before .before .before .before .pre .1 .1 .1))
 
 mul-left-2 : tie.Need-mul-left-2 Inv-loop μ-loop
 mul-left-2 c = omega arith
@@ -49,13 +49,13 @@ shared-slice-read-left-2 : tie.Need-shared-slice-read-left-2 Inv-loop μ-loop
 shared-slice-read-left-2 c = omega (arith, c .before .before .before .before .loop .inv .leads .room)
 
 loop-less : tie.Need-loop-less Inv-loop μ-loop
-loop-less c = along-less _ _ _ _ (c .before .before .before .before .loop .inv) (omega arith)
+loop-less c = along-less _ _ _ _ (c .before .before .before .before .loop .inv) (c .before .before .before .loop-test .taken)
 
 loop-again : tie.Need-loop-again Inv-loop μ-loop
-loop-again c = along-next _ _ _ _ (c .before .before .before .before .loop .inv) (omega arith) (sym (c .before .before .stops .ensures) ∙ c .before .if1 .left)
+loop-again c = along-next _ _ _ _ (c .before .before .before .before .loop .inv) (c .before .before .before .loop-test .taken) (sym (c .before .before .stops .ensures) ∙ c .before .if1 .left)
 
 returns-2 : tie.Need-returns-2 Inv-loop μ-loop
-returns-2 c = along-over _ _ _ _ (c .before .loop .inv) (omega arith) ∙ sym (rows-any _ _ _) ∙ sym (lacks-by-stops _ _ _ (c .before .before .before .before .before .before .before .pre .1 .1 .1))
+returns-2 c = along-over _ _ _ _ (c .before .loop .inv) (c .loop-test .left) ∙ sym (rows-any _ _ _) ∙ sym (lacks-by-stops _ _ _ (c .before .before .before .before .before .before .before .pre .1 .1 .1))
 
 pub lacks-spec : {M : Type 1} → statement M
 lacks-spec =

@@ -39,7 +39,7 @@ cell-requires : tie.Need-cell-requires Inv-loop μ-loop
 cell-requires c κs = omega arith
 
 returns : tie.Need-returns Inv-loop μ-loop
-returns c = along-here _ _ _ _ (c .before .before .before .loop .inv) (omega arith) (eq-eqb _ _ (sym (c .before .cell .ensures) ∙ c .if1 .taken)) ∙ sym (rows-any _ _ _)
+returns c = along-here _ _ _ _ (c .before .before .before .loop .inv) (c .before .before .loop-test .taken) (eq-eqb _ _ (sym (c .before .cell .ensures) ∙ c .if1 .taken)) ∙ sym (rows-any _ _ _)
 
 mul-left-2 : tie.Need-mul-left-2 Inv-loop μ-loop
 mul-left-2 c = omega arith
@@ -48,13 +48,13 @@ shared-slice-read-left-2 : tie.Need-shared-slice-read-left-2 Inv-loop μ-loop
 shared-slice-read-left-2 c = omega (arith, c .before .before .before .before .loop .inv .leads .room)
 
 loop-less : tie.Need-loop-less Inv-loop μ-loop
-loop-less c = along-less _ _ _ _ (c .before .before .before .before .loop .inv) (omega arith)
+loop-less c = along-less _ _ _ _ (c .before .before .before .before .loop .inv) (c .before .before .before .loop-test .taken)
 
 loop-again : tie.Need-loop-again Inv-loop μ-loop
-loop-again c = along-next _ _ _ _ (c .before .before .before .before .loop .inv) (omega arith) (ne-eqb _ _ (λ e. c .before .if1 .left (c .before .before .cell .ensures ∙ e)))
+loop-again c = along-next _ _ _ _ (c .before .before .before .before .loop .inv) (c .before .before .before .loop-test .taken) (ne-eqb _ _ (λ e. c .before .if1 .left (c .before .before .cell .ensures ∙ e)))
 
 returns-2 : tie.Need-returns-2 Inv-loop μ-loop
-returns-2 c = along-over _ _ _ _ (c .before .loop .inv) (omega arith) ∙ sym (rows-any _ _ _)
+returns-2 c = along-over _ _ _ _ (c .before .loop .inv) (c .loop-test .left) ∙ sym (rows-any _ _ _)
 
 pub has-row-spec : {M : Type 1} → statement M
 has-row-spec =

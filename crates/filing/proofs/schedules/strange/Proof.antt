@@ -23,7 +23,7 @@ add-result : tie.Need-add-result Inv-loop μ-loop
 add-result c = omega arith
 
 returns : tie.Need-returns Inv-loop μ-loop
-returns c = known-here _ _ _ _ _ (c .before .before .before .loop .inv) (omega arith) (c .before .is-known .ensures) _ (c .if1 .taken) (omega arith)
+returns c = known-here _ _ _ _ _ (c .before .before .before .loop .inv) (c .before .before .loop-test .taken) (c .before .is-known .ensures) _ (c .if1 .taken) (omega arith)
 
 add-k : tie.Need-add-k Inv-loop μ-loop
 add-k c = omega arith
@@ -32,10 +32,10 @@ loop-less : tie.Need-loop-less Inv-loop μ-loop
 loop-less c = omega arith
 
 loop-again : tie.Need-loop-again Inv-loop μ-loop
-loop-again c = known-next _ _ _ _ _ (c .before .before .before .loop .inv) (omega arith) (c .before .is-known .ensures) (c .if1 .left)
+loop-again c = known-next _ _ _ _ _ (c .before .before .before .loop .inv) (c .before .before .loop-test .taken) (c .before .is-known .ensures) (c .if1 .left)
 
 returns-2 : tie.Need-returns-2 Inv-loop μ-loop
-returns-2 c = known-over _ _ _ _ (c .before .loop .inv) (omega arith)
+returns-2 c = known-over _ _ _ _ (c .before .loop .inv) (c .loop-test .left)
 
 pub strange-spec : {M : Type 1} → statement M
 strange-spec =

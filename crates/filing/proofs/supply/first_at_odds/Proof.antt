@@ -46,7 +46,7 @@ same-length : tie.Need-same-length Inv-loop μ-loop
 same-length c = c .before .before .before .before .before .before .loop .inv .same-length
 
 returns : tie.Need-returns Inv-loop μ-loop
-returns c = agreeing-here _ _ _ _ _ _ (c .before .before .before .before .before .before .loop .inv) (omega arith) (c .before .at-odds-with-last .ensures) (c .if1 .taken)
+returns c = agreeing-here _ _ _ _ _ _ (c .before .before .before .before .before .before .loop .inv) (c .before .before .before .before .before .loop-test .taken) (c .before .at-odds-with-last .ensures) (c .if1 .taken)
 
 add-last : tie.Need-add-last Inv-loop μ-loop
 add-last c = omega arith
@@ -64,13 +64,13 @@ loop-less : tie.Need-loop-less Inv-loop μ-loop
 loop-less c = omega arith
 
 loop-again : tie.Need-loop-again Inv-loop μ-loop
-loop-again c = let key = c .before .before .before .unit-key .ensures in agreeing-next _ _ _ _ _ _ (c .before .before .before .before .before .before .loop .inv) (omega arith) (c .before .at-odds-with-last .ensures) _ _ (c .if1 .left) (key .0) (key .1) (omega arith)
+loop-again c = let key = c .before .before .before .unit-key .ensures in agreeing-next _ _ _ _ _ _ (c .before .before .before .before .before .before .loop .inv) (c .before .before .before .before .before .loop-test .taken) (c .before .at-odds-with-last .ensures) _ _ (c .if1 .left) (key .0) (key .1) (omega arith)
 
 same-length-2 : tie.Need-same-length-2 Inv-loop μ-loop
 same-length-2 c = c .before .loop .inv .same-length
 
 returns-2 : tie.Need-returns-2 Inv-loop μ-loop
-returns-2 c = agreeing-over _ _ _ _ _ (c .before .loop .inv) (omega arith)
+returns-2 c = agreeing-over _ _ _ _ _ (c .before .loop .inv) (c .loop-test .left)
 
 pub first-at-odds-spec : {M : Type 1} → statement M
 first-at-odds-spec =

@@ -7,7 +7,7 @@ use lib.ListN.{length, length-append}
 use Rattle.base.specs.Search.{All, all-none, all-more}
 use Rattle.numeral.proofs.Laws.{length-at-most}
 use Rattle.numeral.specs.Numeral.{numeral·all}
-use Rattle.filing.specs.Supply.{mostUnits}
+use Rattle.supply.specs.Supply.{mostUnits}
 use Rattle.judge.specs.Answer.{AnswerRow, line, lines, answerText, answer·all}
 use Rattle.answer.specs.Longest.{
   Ranged,

@@ -14,8 +14,8 @@ use Rattle.base.proofs.Tests.{false-true, and-fst, and-snd}
 use Rattle.tables.specs.Hours.{lastHour, runEnd, inRun}
 use Rattle.tables.specs.Ranges.{PermittedSchedule}
 use Rattle.tables.specs.Rows.{ScheduleRow}
-use Rattle.filing.specs.Schedules.{scheduleOdds, schedulesAtOdds, own}
-use Rattle.filing.proofs.OddsLaws.{odds-hours}
+use Rattle.schedules.specs.Schedules.{scheduleOdds, schedulesAtOdds, own}
+use Rattle.schedules.proofs.OddsLaws.{odds-hours}
 use Rattle.commitment.specs.Cost.{hourCost, runningCost, inItsRun, share, runCost, startingCost, cost}
 use Rattle.commitment.specs.Ranges.{InRange}
 use Rattle.commitment.proofs.CostLaws.{mostHour, hour-small}

@@ -6,7 +6,7 @@ use Rattle.base.specs.Search.{All}
 use Rattle.tables.specs.Rows.{ConstraintRow, SupplyRow, ScheduleRow, letterOf}
 use Rattle.tables.specs.declared.files.Kind.{Kind}
 use Rattle.tables.specs.declared.files.Kind.the-variants.{M, C}
-use Rattle.filing.specs.Supply.{units}
+use Rattle.supply.specs.Supply.{units}
 use Rattle.market.specs.Parties.{party}
 use Rattle.commitment.specs.Exposure.{Verdict, U, P, F}
 use Rattle.judge.specs.Answer.{verdictLetter}

@@ -16,8 +16,8 @@ use Rattle.tables.specs.Rows.{ConstraintRow, SupplyRow, ScheduleRow}
 use Rattle.tables.specs.Table.{table, columnAt, allColumns, constraintColumns, supplyColumns, schedulesColumns}
 use Rattle.tables.specs.declared.files.File.the-variants.{Supply}
 use Rattle.filing.specs.Filing.{constraintOf, supplyOf, schedulesOf}
-use Rattle.filing.specs.Schedules.{own, schedulesAtOdds}
-use Rattle.filing.specs.Supply.{units}
+use Rattle.schedules.specs.Schedules.{own, schedulesAtOdds}
+use Rattle.supply.specs.Supply.{units}
 use Rattle.market.specs.Clearing.{eligibleSupply}
 use Rattle.market.specs.Ranges.{Permitted}
 use Rattle.market.specs.Removals.{remaining, relevantWithout}

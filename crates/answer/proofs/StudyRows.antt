@@ -5,7 +5,7 @@ use mathlib.Core.List.{List, [], _∷_, map, List·Memᴰ as Among, List·Memᴰ
 use lib.ListN.{length, length-map}
 use Rattle.base.specs.Search.{All, all-none, all-more}
 use Rattle.filing.specs.Filing.{constraintOf, supplyOf, schedulesOf}
-use Rattle.filing.specs.Supply.{units}
+use Rattle.supply.specs.Supply.{units}
 use Rattle.judge.specs.Answer.{AnswerRow}
 use Rattle.judge.specs.Day.{DayView}
 use Rattle.judge.specs.Decision.{decidedRow, decided}

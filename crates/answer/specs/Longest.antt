@@ -2,7 +2,7 @@
 -- their ranges permit. Assumes nothing.
 use Prim.Native.Nat.{ℕ, _+_, _*_, _^_, _<_}
 use Rattle.judge.specs.Answer.{AnswerRow}
-use Rattle.filing.specs.Supply.{mostUnits}
+use Rattle.supply.specs.Supply.{mostUnits}
 use Rattle.answer.specs.Lengths.{fixedBytes}
 
 -- the digits of a field, at most

@@ -13,8 +13,8 @@ use Rattle.base.proofs.Tests.{false-true}
 use Rattle.tables.specs.Rows.{ScheduleRow, scheduleRows, kindOf}
 use Rattle.tables.specs.Table.{M}
 use Rattle.tables.specs.declared.files.Kind.the-variants.{M as KindM, C as KindC}
-use Rattle.filing.specs.Gathered.{Gathered}
-use Rattle.filing.specs.Schedules.{own}
+use Rattle.schedules.specs.Gathered.{Gathered}
+use Rattle.schedules.specs.Schedules.{own}
 use Rattle.commitment.specs.Choosing.{choice}
 use Rattle.commitment.specs.Ranges.{UnitRows}
 use Rattle.commitment.specs.Schedules.{kindIn, onCost, hasAny, schedules}

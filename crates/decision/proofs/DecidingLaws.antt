@@ -10,7 +10,7 @@ use lib.ListN.{length, getD, take, drop, length-append, length-drop, take-append
 use lib.Seq.{take-at, drop-at, getD-take, length-take-le}
 use Rattle.base.proofs.Lists.{drop-next, drop-end, rest-lent, rest-back}
 use Rattle.tables.specs.Rows.{ConstraintRow, SupplyRow, ScheduleRow}
-use Rattle.filing.specs.Schedules.{own}
+use Rattle.schedules.specs.Schedules.{own}
 use Rattle.decision.specs.Deciding.{lacksCostBy, rowBy, rowCells, costlessBy, laidBy, answerOf, Decides, UnitCells, UnitDecided}
 use Rattle.decision.specs.Testing.{unitTest}
 use Rattle.decision.specs.declared.deciding.Decided.the-variants.{All, Costless}

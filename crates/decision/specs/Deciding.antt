@@ -9,8 +9,8 @@ use lib.ListN.{length, getD, drop}
 use Rattle.base.specs.Search.{any}
 use Rattle.tables.specs.Rows.{ConstraintRow, SupplyRow, ScheduleRow, kindOf, letterOf}
 use Rattle.tables.specs.declared.files.Kind.{Kind}
-use Rattle.filing.specs.Schedules.{own}
-use Rattle.filing.specs.Supply.{mostUnits}
+use Rattle.schedules.specs.Schedules.{own}
+use Rattle.supply.specs.Supply.{mostUnits}
 use Rattle.commitment.specs.Choosing.{choice}
 use Rattle.commitment.specs.Schedules.{schedules, onCost, hasAny}
 use Rattle.commitment.specs.declared.choosing.Choice.{Choice}

@@ -4,8 +4,8 @@ ghost use mathlib.Core.List.{_++_};
 ghost use Prim.Native.Nat.{_*_, _≤_};
 ghost use lib.ListN.{length, take, drop};
 ghost use Rattle.tables.specs.Rows.{constraintRow, supplyRows, scheduleRows, letterOf};
-ghost use Rattle.filing.specs.Links.{Linked, unitKeys, unitKey};
-ghost use Rattle.filing.specs.Schedules.{own as Schedules·own};
+ghost use Rattle.links.specs.Links.{Linked, unitKeys, unitKey};
+ghost use Rattle.schedules.specs.Schedules.{own as Schedules·own};
 ghost use Rattle.commitment.specs.Ranges.{UnitRows};
 ghost use Rattle.judge.specs.Answer.{answerWidth};
 ghost use Rattle.decision.specs.Standing.{Stands, MarketCells};
@@ -18,9 +18,9 @@ use crate::standing::stand;
 use crate::testing::UnitTest;
 use crate::testing::test_unit;
 use commitment::Choice;
-use filing::UNIT_LINKS;
-use filing::gather;
-use filing::link_units;
+use links::UNIT_LINKS;
+use schedules::gather;
+use schedules::link_units;
 use tables::Kind;
 
 // The most parties whose amounts are tested.

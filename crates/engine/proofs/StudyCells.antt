@@ -27,8 +27,8 @@ use Rattle.filing.specs.declared.files.Filed.the-variants.{Rows, Refused}
 use Rattle.filing.specs.declared.files.Sizes.{Sizes}
 use Rattle.filing.proofs.KeptLaws.{kept}
 use Rattle.filing.specs.Kept.{Kept}
-use Rattle.filing.specs.Supply.{units, suppliers, suppliersFrom, mostUnits}
-use Rattle.filing.proofs.UnitLaws.{units-rising, among-units}
+use Rattle.supply.specs.Supply.{units, suppliers, suppliersFrom, mostUnits}
+use Rattle.supply.proofs.UnitLaws.{units-rising, among-units}
 use Rattle.market.specs.Parties.{party, parties, met, metAll}
 use Rattle.pivotal.specs.Suppliers.{among as amongParties}
 use Rattle.commitment.specs.Ranges.{UnitRows}

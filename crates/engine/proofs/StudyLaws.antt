@@ -19,7 +19,7 @@ use Rattle.tables.specs.Rows.{ConstraintRow, SupplyRow, ScheduleRow}
 use Rattle.tables.specs.declared.files.File.the-variants.{Schedules}
 use Rattle.tables.specs.declared.files.Refusal.{Refusal}
 use Rattle.filing.specs.Filing.{constraintOf, supplyOf, schedulesOf, filingRefusal}
-use Rattle.filing.specs.Supply.{units}
+use Rattle.supply.specs.Supply.{units}
 use Rattle.judge.specs.Answer.{AnswerRow, answerText}
 use Rattle.judge.specs.Day.{DayView, mostRunning, dayFormed, stateRefused, unless, earlier, wouldRun, committed}
 use Rattle.judge.specs.Decision.{decided, costless}

@@ -9,7 +9,7 @@ use Rattle.base.specs.Rising.{RisingFrom}
 use Rattle.base.specs.Search.{All, firstOf}
 use Rattle.tables.specs.Rows.{ConstraintRow, SupplyRow, ScheduleRow}
 use Rattle.tables.specs.declared.files.Refusal.{Refusal}
-use Rattle.filing.specs.Supply.{mostUnits, units}
+use Rattle.supply.specs.Supply.{mostUnits, units}
 use Rattle.answer.specs.Rows.{Lettered}
 use Rattle.judge.specs.Answer.{AnswerRow, answerText, answerRows, answerWidth}
 use Rattle.judge.specs.Day.{DayView}

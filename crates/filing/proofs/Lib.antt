@@ -1,13 +1,4 @@
-pub mod CheckLaws
 pub mod FilingLaws
-pub mod GatherLaws
 pub mod KeptLaws
-pub mod LinkLaws
-pub mod NumberLaws
-pub mod OddsLaws
 pub mod Rooms
-pub mod RunLaws
-pub mod ScheduleLaws
 pub mod StepLaws
-pub mod SupplyLaws
-pub mod UnitLaws

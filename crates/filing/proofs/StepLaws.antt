@@ -17,28 +17,19 @@ use Rattle.tables.specs.declared.files.Reading.{Reading}
 use Rattle.tables.specs.declared.files.Reading.the-variants.{Rows as RowsRead, Refused as NotRead}
 use Rattle.tables.specs.declared.files.Refusal.{Refusal}
 use Rattle.tables.proofs.Accepted.{accepted}
-use Rattle.filing.specs.Checks.{SupplyChecked, InHoursOf, schedulesChecked}
+use Rattle.supply.specs.Checks.{SupplyChecked}
+use Rattle.schedules.specs.Checks.{InHoursOf, schedulesChecked}
 use Rattle.filing.specs.Filed.{ConstraintKept, SupplyFiled, SchedulesFiled, RowsFiled, FilesFiled, supplyRefusal, schedulesRefusal, rowsRefusal, filed, filedUnless, supplyUnless, schedulesUnless, supplyAnswer, schedulesAnswer, rowsAnswer}
 use Rattle.filing.specs.Filing.{constraintOf, supplyOf, schedulesOf, filingRefusal}
-use Rattle.filing.specs.Ranges.{InHours}
-use Rattle.filing.specs.Supply.{mostUnits, units, crowded}
-use Rattle.filing.specs.declared.checks.SupplyCheck.{SupplyCheck}
-use Rattle.filing.specs.declared.checks.ScheduleCheck.{ScheduleCheck}
+use Rattle.schedules.specs.Ranges.{InHours}
+use Rattle.supply.specs.Supply.{mostUnits, units, crowded}
+use Rattle.supply.specs.declared.checks.SupplyCheck.{SupplyCheck}
+use Rattle.schedules.specs.declared.checks.ScheduleCheck.{ScheduleCheck}
 use Rattle.filing.specs.declared.files.Filed.{Filed}
 use Rattle.filing.specs.declared.files.Filed.the-variants.{Refused}
 use Rattle.filing.specs.declared.files.SupplyFiling.{SupplyFiling}
 use Rattle.filing.specs.declared.files.SupplyFiling.the-variants.{Rows as SupplyRowsFiled, Refused as SupplyRefused}
-use Rattle.filing.proofs.FilingLaws.{
-  was-read,
-  was-refused,
-  supply-count,
-  schedules-count,
-  supply-rows,
-  schedule-rows,
-  constraint-row,
-  supply-checked,
-  schedules-checked,
-}
+use Rattle.filing.proofs.FilingLaws.{was-read, was-refused, supply-count, schedules-count, supply-rows, schedule-rows, constraint-row, supply-checked, schedules-checked}
 use Rattle.filing.proofs.KeptLaws.{constraint-kept, schedules-kept, units-few}
 use Rattle.filing.proofs.Rooms.{supply-room, schedules-room}
 

@@ -11,8 +11,8 @@ use Rattle.tables.specs.Reading.{refusal}
 use Rattle.tables.specs.Table.{table}
 use Rattle.tables.specs.declared.files.File.the-variants.{Constraint, Supply, Schedules}
 use Rattle.filing.specs.Filing.{constraintOf, supplyOf, schedulesOf}
-use Rattle.filing.specs.Schedules.{schedulesAtOdds, strange, unscheduled, lacking}
-use Rattle.filing.specs.Supply.{mostUnits, mostSuppliers, units, suppliers, crowded, supplyAtOdds}
+use Rattle.schedules.specs.Schedules.{schedulesAtOdds, strange, unscheduled, lacking}
+use Rattle.supply.specs.Supply.{mostUnits, mostSuppliers, units, suppliers, crowded, supplyAtOdds}
 
 pub record Kept (c s h : List ℕ) : Type 0 where
   -- 1, 2, 4 and 3

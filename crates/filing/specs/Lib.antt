@@ -1,13 +1,3 @@
-pub mod Answers
-pub mod Checks
 pub mod Filed
 pub mod Filing
-pub mod Gathered
 pub mod Kept
-pub mod Links
-pub mod Numbers
-pub mod Ranges
-pub mod Runs
-pub mod Schedules
-pub mod Supply
-pub mod SupplyPromises

@@ -10,8 +10,8 @@ use Rattle.base.specs.Search.{All, all-none, all-more}
 use Rattle.tables.specs.Ranges.{PermittedSupply}
 use Rattle.tables.specs.Rows.{SupplyRow}
 use Rattle.filing.specs.Filing.{constraintOf, supplyOf, schedulesOf}
-use Rattle.filing.specs.Supply.{units}
-use Rattle.filing.proofs.UnitLaws.{units-rising}
+use Rattle.supply.specs.Supply.{units}
+use Rattle.supply.proofs.UnitLaws.{units-rising}
 use Rattle.judge.specs.Answer.{answerText}
 use Rattle.judge.specs.Day.{DayView}
 use Rattle.judge.specs.Right.{Right}

@@ -14,8 +14,8 @@ use Rattle.base.proofs.Tests.{false-true, and-fst, and-snd}
 use Rattle.tables.specs.Hours.{lastHour, runEnd}
 use Rattle.tables.specs.Ranges.{PermittedSchedule}
 use Rattle.tables.specs.Rows.{ScheduleRow}
-use Rattle.filing.specs.Schedules.{sameSchedule, scheduleOdds, schedulesAtOdds, own, unscheduled, hasHours, hasRun, lacking}
-use Rattle.filing.proofs.OddsLaws.{odds-hours}
+use Rattle.schedules.specs.Schedules.{sameSchedule, scheduleOdds, schedulesAtOdds, own, unscheduled, hasHours, hasRun, lacking}
+use Rattle.schedules.proofs.OddsLaws.{odds-hours}
 use Rattle.commitment.specs.Right.{OneRowEach}
 use Rattle.commitment.specs.Schedules.{atHour, schedules}
 use Rattle.commitment.proofs.PassingLaws.{passing-among, among-passing}

@@ -6,7 +6,7 @@ use mathlib.Core.Option.{none}
 use native.Mathlib.Omega.{arith}
 use Rattle.tables.specs.Rows.{ConstraintRow, SupplyRow, ScheduleRow}
 use Rattle.filing.specs.Filing.{constraintOf, supplyOf, schedulesOf}
-use Rattle.filing.specs.Supply.{units}
+use Rattle.supply.specs.Supply.{units}
 use Rattle.market.specs.Parties.{party}
 use Rattle.market.specs.Removals.{PartyOf}
 use Rattle.judge.specs.Answer.{AnswerRow}

@@ -7,7 +7,7 @@ use Rattle.base.specs.Rising.{RisingFrom}
 use Rattle.base.specs.Search.{All, all-none, all-more}
 use Rattle.base.proofs.Elements.{all-mem}
 use Rattle.tables.specs.Rows.{ConstraintRow, SupplyRow, ScheduleRow}
-use Rattle.filing.specs.Supply.{units}
+use Rattle.supply.specs.Supply.{units}
 use Rattle.judge.specs.Answer.{AnswerRow}
 use Rattle.judge.specs.Day.{RunningUnit}
 use Rattle.judge.specs.Decision.{unitRow, decidedRow, decided}

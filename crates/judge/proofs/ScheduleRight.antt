@@ -9,8 +9,8 @@ use mathlib.Core.Option.{Option}
 use borrow.Author.Tests.{not-false}
 use Rattle.tables.specs.Rows.{ConstraintRow, SupplyRow, ScheduleRow}
 use Rattle.tables.specs.declared.files.Kind.{Kind}
-use Rattle.filing.specs.Schedules.{own}
-use Rattle.filing.specs.Supply.{units}
+use Rattle.schedules.specs.Schedules.{own}
+use Rattle.supply.specs.Supply.{units}
 use Rattle.market.specs.Parties.{party}
 use Rattle.commitment.specs.Right.{RightChoice}
 use Rattle.commitment.specs.Schedules.{schedules, onCost, hasAny}

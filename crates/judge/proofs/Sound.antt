@@ -12,8 +12,8 @@ use Rattle.tables.specs.Rows.{ConstraintRow, SupplyRow, ScheduleRow}
 use Rattle.tables.specs.declared.files.File.the-variants.{Schedules}
 use Rattle.filing.specs.Filing.{constraintOf, supplyOf, schedulesOf, filingRefusal}
 use Rattle.filing.specs.Kept.{Kept}
-use Rattle.filing.specs.Schedules.{schedulesAtOdds, unscheduled, lacking}
-use Rattle.filing.specs.Supply.{units, supplyAtOdds}
+use Rattle.schedules.specs.Schedules.{schedulesAtOdds, unscheduled, lacking}
+use Rattle.supply.specs.Supply.{units, supplyAtOdds}
 use Rattle.filing.proofs.KeptLaws.{kept}
 use Rattle.market.specs.Clearing.{needOf}
 use Rattle.judge.specs.Day.{RunningUnit, DayView, dayFormed, unless}

@@ -9,8 +9,8 @@ use Rattle.base.specs.Rising.{among}
 use Rattle.base.specs.Search.{any}
 use Rattle.base.proofs.Elements.{any-mem}
 use Rattle.tables.specs.Rows.{SupplyRow}
-use Rattle.filing.specs.Supply.{units}
-use Rattle.filing.proofs.UnitLaws.{among-units}
+use Rattle.supply.specs.Supply.{units}
+use Rattle.supply.proofs.UnitLaws.{among-units}
 use Rattle.judge.proofs.SearchLaws.{mem-any}
 
 -- the test of being among some numbers is that of any of them being the one

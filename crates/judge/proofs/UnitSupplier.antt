@@ -8,8 +8,8 @@ use lib.Dec.{eqb}
 use borrow.Author.Tests.{eq-eqb, eqb-true, not-false}
 use Rattle.base.proofs.Tests.{and-fst, and-snd}
 use Rattle.tables.specs.Rows.{ConstraintRow, SupplyRow}
-use Rattle.filing.specs.Supply.{units, supplyOdds, supplyAtOdds}
-use Rattle.filing.proofs.UnitLaws.{among-units}
+use Rattle.supply.specs.Supply.{units, supplyOdds, supplyAtOdds}
+use Rattle.supply.proofs.UnitLaws.{among-units}
 use Rattle.market.specs.Clearing.{noRow}
 use Rattle.judge.specs.Decision.{ofUnit, unitRow}
 use Rattle.judge.specs.Right.{RowOf}

@@ -8,8 +8,8 @@ use lib.Dec.{eqb}
 use Rattle.base.specs.Search.{any, find, first}
 use Rattle.tables.specs.Rows.{ConstraintRow, SupplyRow, ScheduleRow, letterOf}
 use Rattle.tables.specs.declared.files.Kind.the-variants.{C}
-use Rattle.filing.specs.Supply.{units}
-use Rattle.filing.specs.Schedules.{own}
+use Rattle.supply.specs.Supply.{units}
+use Rattle.schedules.specs.Schedules.{own}
 use Rattle.market.specs.Clearing.{needOf, short, clearingRow, noRow}
 use Rattle.market.specs.Parties.{party, parties, amounts}
 use Rattle.market.specs.Relevant.{relevant}

@@ -12,7 +12,7 @@ use Rattle.numeral.specs.Numeral.{Numeral}
 use Rattle.tables.specs.Rows.{ConstraintRow, SupplyRow, ScheduleRow, letterOf}
 use Rattle.tables.specs.declared.files.Kind.{Kind}
 use Rattle.filing.specs.Filing.{constraintOf, supplyOf, schedulesOf}
-use Rattle.filing.specs.Schedules.{own}
+use Rattle.schedules.specs.Schedules.{own}
 use Rattle.market.specs.Clearing.{Clears, needOf, eligibleSupply}
 use Rattle.market.specs.Parties.{party}
 use Rattle.market.specs.Relevant.{relevant}

@@ -20,8 +20,8 @@ use Rattle.commitment.specs.Schedules.{
   eligible as eligibleSchedule,
 }
 use Rattle.filing.specs.Filing.{filing·all}
-use Rattle.filing.specs.Schedules.{schedules·all}
-use Rattle.filing.specs.Supply.{supply·all}
+use Rattle.schedules.specs.Schedules.{schedules·all}
+use Rattle.supply.specs.Supply.{supply·all}
 use Rattle.judge.specs.Answer.{answer·all}
 use Rattle.judge.specs.Day.{freshDay, day·all}
 use Rattle.judge.specs.Decision.{decision·all}

@@ -1,6 +1,6 @@
 -- The market first, then the units, by schedule rows that are linked by unit. Assumes nothing.
 use mathlib.Core.Path.{refl}
-use Rattle.filing.proofs.LinkLaws.{unlinked}
+use Rattle.links.proofs.LinkLaws.{unlinked}
 use native.Mathlib.Omega.{arith}
 use borrow.Author.Needs.{needs}
 use Rattle.decision.proofs.deciding.decide.Statement.{statement}

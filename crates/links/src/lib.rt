@@ -1,0 +1,48 @@
+// Rows linked by a key, so that a search among the rows of one unit, or of one schedule, goes from
+// each to the last one before it. A run of links has first, for each row, one more than the place of
+// the last row before it with its key, and behind these, for each key, one more than the place of the
+// last row that has it; 0 stands for none. Different units or schedules may share a key: what is
+// searched for tells them apart. Assumes nothing of the numbers.
+ghost use mathlib.Core.Path.{_≡_};
+ghost use Prim.Native.Nat.{_+_, _<_};
+ghost use lib.ListN.{length};
+ghost use Rattle.links.specs.Links.{mostLinked, rowLinked, unitKeys, scheduleKeys, byUnit, bySchedule};
+
+// The most rows, and how many keys there are.
+pub const ROWS: usize = 1024;
+
+const UNIT_KEYS: u64 = 1024;
+
+const SCHEDULE_KEYS: u64 = 2039;
+
+// The length of a run of links by unit, and of one by unit and schedule.
+pub const UNIT_LINKS: usize = 2048;
+
+pub const SCHEDULE_LINKS: usize = 3063;
+
+// What a key by unit and schedule goes by: so much of the unit, and of the schedule.
+const UNITS: u64 = 16384;
+
+const SCHEDULES: u64 = 128;
+
+// Links row `k`, of the key, to the last row before it, and the key to the row.
+pub fn link(links: &mut [usize], key: usize, k: usize)
+    requires { ⌜ k < mostLinked ⌝ }
+    requires { ⌜ mostLinked + key < length (now links) ⌝ }
+    ensures { λ _. ⌜ now (links .exit) ≡ rowLinked (now (links .entry)) key k ⌝ }
+{
+    links[k] = links[ROWS + key];
+    links[ROWS + key] = k + 1;
+}
+
+pub fn unit_key(unit: u64) -> usize
+    ensures { λ r. ⌜ (r ≡ byUnit unit) × (r < unitKeys) ⌝ }
+{
+    (unit % UNIT_KEYS) as usize
+}
+
+pub fn schedule_key(unit: u64, schedule: u64) -> usize
+    ensures { λ r. ⌜ (r ≡ bySchedule unit schedule) × (r < scheduleKeys) ⌝ }
+{
+    ((unit % UNITS * SCHEDULES + schedule % SCHEDULES) % SCHEDULE_KEYS) as usize
+}

@@ -1,0 +1,7 @@
+pub mod CheckLaws
+pub mod GatherLaws
+pub mod OddsLaws
+pub mod PlaceLaws
+pub mod RunLaws
+pub mod ScheduleLaws
+pub mod SearchLaws

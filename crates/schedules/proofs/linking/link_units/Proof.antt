@@ -1,0 +1,58 @@
+-- Rows linked one a turn. Assumes nothing.
+use Prim.Native.Nat.{_-_}
+use mathlib.Core.Path.{_∙_}
+use native.Mathlib.Omega.{arith}
+use Rattle.links.specs.Links.{unitKeys, unitKey}
+use Rattle.links.proofs.LinkLaws.{Linking, linking-none, linking-next, linking-over}
+use borrow.Author.Needs.{needs}
+use Rattle.schedules.proofs.linking.link_units.Statement.{statement}
+use Rattle.schedules.proofs.linking.link_units.Tie as tie
+
+abbrev Inv-loop : tie.InvT-loop
+Inv-loop cells n links₀ k₀ links k = Linking (unitKey cells) unitKeys n links₀ links k
+
+abbrev μ-loop : tie.MeasureT-loop
+μ-loop cells n links₀ k₀ links k = n - k
+
+loop-holds : tie.Need-loop-holds Inv-loop μ-loop
+loop-holds c = linking-none _ _ _ _ (omega arith) (omega arith) (c .before .before .pre .1 .1 .1)
+
+cell-requires : tie.Need-cell-requires Inv-loop μ-loop
+cell-requires c κs = omega arith
+
+unit-key-requires : tie.Need-unit-key-requires Inv-loop μ-loop
+unit-key-requires c κs = search needs
+
+link-requires : tie.Need-link-requires Inv-loop μ-loop
+link-requires c κs = omega arith
+
+add-k : tie.Need-add-k Inv-loop μ-loop
+add-k c = omega arith
+
+loop-less : tie.Need-loop-less Inv-loop μ-loop
+loop-less c = omega arith
+
+loop-again : tie.Need-loop-again Inv-loop μ-loop
+loop-again c = linking-next _ _ _ _ _ _ _ (c .before .before .before .before .before .before .before .loop .inv) (c .before .before .before .before .before .before .loop-test .taken) (c .before .before .before .before .unit-key .ensures .0 ∙ rw (c .before .before .before .before .before .cell .ensures)) (omega arith) _ (c .before .before .link .ensures)
+
+same-length : tie.Need-same-length Inv-loop μ-loop
+same-length c = c .before .loop .inv .same-length
+
+returns : tie.Need-returns Inv-loop μ-loop
+returns c = linking-over _ _ _ _ _ _ (c .before .loop .inv) (c .loop-test .left)
+
+pub link-units-spec : {M : Type 1} → statement M
+link-units-spec =
+    tie.close
+    (tie.spec
+    Inv-loop
+    μ-loop
+    loop-holds
+    cell-requires
+    unit-key-requires
+    link-requires
+    add-k
+    loop-less
+    loop-again
+    same-length
+    returns)

@@ -1,0 +1,4 @@
+pub mod CheckLaws
+pub mod NumberLaws
+pub mod SupplyLaws
+pub mod UnitLaws

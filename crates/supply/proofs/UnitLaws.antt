@@ -1,0 +1,124 @@
+-- Laws of the units and the suppliers of supply rows: they rise, and a number is among them where some row has it. And of
+-- the places that refusals 5 and 6 name: 0 stands for none. Assumes nothing.
+use Prim.Native.Nat.{ℕ, suc, _≤_, _<_}
+use mathlib.Core.Path.{_≡_, refl, sym, _∙_, ap}
+use mathlib.Core.Bool.{Bool, true, false, cond, _||_, or-false}
+use mathlib.Core.List.{List, [], _∷_}
+use mathlib.Core.Option.{Option, none, some, Option·getD}
+use mathlib.Core.Logic.{⊎-elim}
+use native.Mathlib.Omega.{arith}
+use lib.Dec.{eqb}
+use lib.ListN.{length}
+use borrow.Author.Tests.{eq-eqb, ne-eqb}
+use Rattle.base.specs.Rising.{among, RisingFrom, end, inserted}
+use Rattle.base.specs.Search.{any, first, firstAtOdds, All, all-none, all-more}
+use Rattle.base.proofs.RisingLaws.{inserted-rising, among-inserted}
+use Rattle.base.proofs.Tests.{eq-or-ne}
+use Rattle.tables.specs.Rows.{SupplyRow}
+use Rattle.supply.specs.Supply.{units, unitsFrom, suppliers, suppliersFrom, crowded, crowdedFrom, supplyOdds, supplyAtOdds}
+use Rattle.supply.specs.SupplyPromises.{tooMany}
+
+units-rising-from :
+    {us : List ℕ} {rs : List SupplyRow} → RisingFrom 0 us → All (λ (r : SupplyRow). 1 ≤ r .unit) rs → RisingFrom 0 (unitsFrom us rs)
+unfolding unitsFrom
+units-rising-from h all-none = h
+units-rising-from h (all-more {x = r} p a) = units-rising-from (inserted-rising (r .unit) p h) a
+
+pub units-rising : {rs : List SupplyRow} → All (λ (r : SupplyRow). 1 ≤ r .unit) rs → RisingFrom 0 (units rs)
+unfolding units
+units-rising a = units-rising-from end a
+
+suppliers-rising-from :
+    {ss : List ℕ} {rs : List SupplyRow} → RisingFrom 0 ss → All (λ (r : SupplyRow). 1 ≤ r .supplier) rs →
+    RisingFrom 0 (suppliersFrom ss rs)
+unfolding suppliersFrom
+suppliers-rising-from h all-none = h
+suppliers-rising-from h (all-more {x = r} p a) = suppliers-rising-from (inserted-rising (r .supplier) p h) a
+
+pub suppliers-rising : {rs : List SupplyRow} → All (λ (r : SupplyRow). 1 ≤ r .supplier) rs → RisingFrom 0 (suppliers rs)
+unfolding suppliers
+suppliers-rising a = suppliers-rising-from end a
+
+eqb-swapped : (m n : ℕ) → eqb m n ≡ eqb n m
+eqb-swapped m n =
+    ⊎-elim
+    (λ e. eq-eqb m n e ∙ sym (eq-eqb n m (sym e)))
+    (λ e. ne-eqb m n e ∙ sym (ne-eqb n m (λ f. e (sym f))))
+    (eq-or-ne m n)
+
+-- who came with the row, or before it, or comes after it
+pub one-of : (row before after : Bool) → ((row || before) || after) ≡ (before || (row || after))
+one-of true true after = refl
+one-of true false after = refl
+one-of false before after = refl
+
+module _ (u : ℕ) where
+  among-units-from :
+      (us : List ℕ) (rs : List SupplyRow) →
+      among u (unitsFrom us rs) ≡ (among u us || any (λ (r : SupplyRow). eqb (r .unit) u) rs)
+  unfolding unitsFrom any
+  among-units-from us [] = sym (or-false (among u us))
+  among-units-from us (r ∷ rs) =
+      among-units-from (inserted (r .unit) us) rs
+      ∙ rw (among-inserted u (r .unit) us, eqb-swapped u (r .unit)) (one-of (eqb (r .unit) u) (among u us) _)
+
+  pub among-units : (rs : List SupplyRow) → among u (units rs) ≡ any (λ (r : SupplyRow). eqb (r .unit) u) rs
+  unfolding units among
+  among-units rs = among-units-from [] rs
+
+  among-suppliers-from :
+      (ss : List ℕ) (rs : List SupplyRow) →
+      among u (suppliersFrom ss rs) ≡ (among u ss || any (λ (r : SupplyRow). eqb (r .supplier) u) rs)
+  unfolding suppliersFrom any
+  among-suppliers-from ss [] = sym (or-false (among u ss))
+  among-suppliers-from ss (r ∷ rs) =
+      among-suppliers-from (inserted (r .supplier) ss) rs
+      ∙ rw (among-inserted u (r .supplier) ss, eqb-swapped u (r .supplier)) (one-of (eqb (r .supplier) u) (among u ss) _)
+
+  pub among-suppliers : (rs : List SupplyRow) → among u (suppliers rs) ≡ any (λ (r : SupplyRow). eqb (r .supplier) u) rs
+  unfolding suppliers among
+  among-suppliers rs = among-suppliers-from [] rs
+
+-- records count from 1, so the place 0 is no record
+no-place :
+    (t : Bool) (k : ℕ) (more : Option ℕ) → (Option·getD more 0 ≡ 0 → more ≡ none) → Option·getD (cond t (some (suc k)) more) 0 ≡ 0 →
+    cond t (some (suc k)) more ≡ none
+no-place true k more h e = absurd (omega arith)
+no-place false k more h e = h e
+
+crowded-from-none :
+    (us ss : List ℕ) (k : ℕ) (rs : List SupplyRow) → Option·getD (crowdedFrom us ss (suc k) rs) 0 ≡ 0 →
+    crowdedFrom us ss (suc k) rs ≡ none
+unfolding crowdedFrom tooMany
+crowded-from-none us ss k [] e = refl
+crowded-from-none us ss k (r ∷ rs) e =
+    let us' = inserted (r .unit) us in
+    let ss' = inserted (r .supplier) ss in
+    no-place (tooMany (length us') (length ss')) k (crowdedFrom us' ss' (suc (suc k)) rs) (crowded-from-none us' ss' (suc k) rs) e
+
+pub crowded-none : (rs : List SupplyRow) → Option·getD (crowded rs) 0 ≡ 0 → crowded rs ≡ none
+unfolding crowded
+crowded-none rs e = crowded-from-none [] [] 0 rs e
+
+module _ {A : Type 0} (odds : A → A → Bool) where
+  pub at-odds-none :
+      (seen : List A) (k : ℕ) (xs : List A) → Option·getD (firstAtOdds odds seen (suc k) xs) 0 ≡ 0 →
+      firstAtOdds odds seen (suc k) xs ≡ none
+  unfolding firstAtOdds
+  at-odds-none seen k [] e = refl
+  at-odds-none seen k (x ∷ xs) e =
+      no-place (any (odds x) seen) k (firstAtOdds odds (x ∷ seen) (suc (suc k)) xs) (at-odds-none (x ∷ seen) (suc k) xs) e
+
+pub supply-at-odds-none : (rs : List SupplyRow) → Option·getD (supplyAtOdds rs) 0 ≡ 0 → supplyAtOdds rs ≡ none
+unfolding supplyAtOdds
+supply-at-odds-none rs e = at-odds-none supplyOdds [] 0 rs e
+
+pub first-none-at : {A : Type 0} (p : A → Bool) (k : ℕ) (xs : List A) → Option·getD (first p (suc k) xs) 0 ≡ 0 → first p (suc k) xs ≡ none
+unfolding first
+first-none-at p k [] e = refl
+first-none-at p k (x ∷ xs) e = no-place (p x) k (first p (suc (suc k)) xs) (first-none-at p (suc k) xs) e
+
+-- any other place is one
+pub place-some : (o : Option ℕ) (p : ℕ) → p ≡ Option·getD o 0 → 0 < p → o ≡ some p
+place-some none p e h = absurd (omega arith)
+place-some (some k) p e h = ap some (sym e)

@@ -1,0 +1,4 @@
+pub mod Checks
+pub mod Numbers
+pub mod Supply
+pub mod SupplyPromises

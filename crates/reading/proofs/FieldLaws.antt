@@ -13,12 +13,13 @@ use borrow.Author.Tests.{eq-eqb, ne-eqb, le-leb, eqb-true}
 use Rattle.base.specs.Search.{one}
 use Rattle.base.specs.Text.{same}
 use Rattle.base.proofs.Lists.{drop-next}
+use Rattle.base.proofs.Tests.{false-true}
 use Rattle.csv.specs.Grammar.{DQUOTE, TEXTDATA, above-comma, NonEscaped, Opened, Escaped, Field}
-use Rattle.numeral.specs.Numeral.{ZERO, Digit, withDigit, Digits, number, leadingZero, within}
+use Rattle.numeral.specs.Numeral.{ZERO, Digit, withDigit, Digits, number, leadingZero, digitsFrom, within}
 use Rattle.numeral.proofs.Reading.{digits-read, number-from, none-some}
 use Rattle.tables.specs.Table.{numeral, signed, letter}
 use Rattle.tables.specs.Values.{MINUS, inForm, excess, oneOf}
-use Rattle.reading.specs.Walk.{Run, Texted, TextFound, Fielded, FieldFound, Closed, formOf}
+use Rattle.reading.specs.Walk.{Run, RunFound, ZeroFound, Texted, TextFound, Fielded, FieldFound, Closed, formOf}
 use Rattle.reading.specs.declared.fields.Found.{Found}
 
 -- one more byte at the end of a text
@@ -30,89 +31,62 @@ digits-more : {m n b : ℕ} {v : List ℕ} → Digits m v n → Digit b → Digi
 digits-more Digits.end d = Digits.digit d Digits.end
 digits-more (Digits.digit e ds) d = Digits.digit e (digits-more ds d)
 
--- the least number of more than k digits
-pub tens : ℕ → ℕ
-tens zero = 1
-tens (suc k) = 10 * tens k
-
-tens-rise : (d k : ℕ) → tens k ≤ tens (d + k)
-unfolding tens
-tens-rise zero k =
-    let e : 0 + k ≡ k = omega arith in
-    rw e (omega arith)
-tens-rise (suc d) k =
-    let e : suc d + k ≡ suc (d + k) = omega arith in
-    rw e (omega (arith, tens-rise d k))
-
-tens-most : (k : ℕ) → k ≤ 17 → tens k ≤ 100000000000000000
-tens-most k h =
-    let e : (17 - k) + k ≡ 17 = omega arith in
-    let at-17 : tens 17 ≡ 100000000000000000 = unfold tens in refl in
-    omega (arith, at-17, rw e at (tens-rise (17 - k) k))
-
 -- the digits from `at` to i, which make n
 pub record Running (s : List ℕ) (at i n : ℕ) : Type 0 where
   pub text : List ℕ
   pub runs : NonEscaped (drop at s) text (drop i s)
   pub makes : Digits 0 text n
   pub counted : i ≡ at + length text
-  pub small : n < tens (length text)
 
 module _ (s : List ℕ) (at : ℕ) where
   pub running-none : Running s at at 0
-  unfolding tens
-  running-none =
-      record { text = []; runs = NonEscaped.none; makes = Digits.end; counted = omega arith; small = omega arith }
-
-  pub running-fits : (i n : ℕ) → Running s at i n → i < at + 18 → n < 100000000000000000
-  running-fits i n w h = omega (arith, w .small, w .counted, tens-most (length (w .text)) (omega (arith, w .counted)))
+  running-none = record { text = []; runs = NonEscaped.none; makes = Digits.end; counted = omega arith }
 
   pub running-next :
       (i n b : ℕ) → Running s at i n → i < length s → b ≡ getD s i 0 → Digit b → Running s at (i + 1) (withDigit n b)
-  unfolding tens
   running-next i n b w h e d =
       record {
         text = w .text ++ b ∷ [];
         runs = text-more (rw (drop-next 0 i s h, ← e) at (w .runs)) (above-comma (omega arith) (omega arith));
         makes = digits-more (w .makes) d;
         counted = omega (arith, w .counted, longer);
-        small = rw (longer, one-more) (omega (arith, w .small));
       }
     where
       longer : length (w .text ++ b ∷ []) ≡ length (w .text) + 1
       longer = length-append (w .text) (b ∷ [])
 
-      one-more : length (w .text) + 1 ≡ suc (length (w .text))
-      one-more = omega arith
-
-  pub running-over : (i n : ℕ) → Running s at i n → i ≤ length s → Run s at (record { next = i; cell = n })
+  pub running-over : (i n : ℕ) → Running s at i n → i ≤ length s → RunFound s at (record { good = true; next = i; cell = n })
   running-over i n w h =
-      record { text = w .text; runs = w .runs; makes = w .makes; counted = w .counted; inside = h }
+      record {
+        found = λ z. record { text = w .text; runs = w .runs; makes = w .makes; counted = w .counted; inside = h };
+      }
+
+  pub no-run : (r : Found) → r .good ≡ false → RunFound s at r
+  no-run r e = record { found = λ h. false-true (sym e ∙ h) }
 
 module _ (read : List ℕ → Option ℕ) (s : List ℕ) (at : ℕ) where
   -- what was given up
-  pub no-text : (r : Found) → r .next ≡ 0 → TextFound read s at r
-  no-text r e = record { found = λ h. absurd (omega arith) }
+  pub no-text : (r : Found) → r .good ≡ false → TextFound read s at r
+  no-text r e = record { found = λ h. false-true (sym e ∙ h) }
 
-pub no-field : (read : List ℕ → Option ℕ) (s : List ℕ) (r : Found) → r .next ≡ 0 → FieldFound read s r
-no-field read s r e = record { found = λ h. absurd (omega arith) }
+pub no-field : (read : List ℕ → Option ℕ) (s : List ℕ) (r : Found) → r .good ≡ false → FieldFound read s r
+no-field read s r e = record { found = λ h. false-true (sym e ∙ h) }
 
-pub not-closed : (s : List ℕ) (end cell : ℕ) (r : Found) → r .next ≡ 0 → Closed s end cell r
-not-closed s end cell r e = record { found = λ h. absurd (omega arith) }
+pub no-zero : (at least : ℕ) (r : Found) → r .good ≡ false → r .cell ≡ 0 → ZeroFound at least r
+no-zero at least r e z = record { cell = z; found = λ h. false-true (sym e ∙ h) }
+
+pub not-closed : (s : List ℕ) (t r : Found) → r .good ≡ false → Closed s t r
+not-closed s t r e = record { found = λ h. false-true (sym e ∙ h) }
 
 pub is-closed :
-    (s : List ℕ) (end cell x : ℕ) → (end ≡ 0 → ⊥) → end < length s → getD s end 0 ≡ DQUOTE → x ≡ cell →
-    Closed s end cell (record { next = end + 1; cell = x })
-is-closed s end cell x n h e q =
-    record { found = λ z. (rw (drop-next 0 end s h, e), omega arith, omega arith, q) }
+    (s : List ℕ) (t : Found) (x : ℕ) → t .good ≡ true → t .next < length s → getD s (t .next) 0 ≡ DQUOTE → x ≡ t .cell →
+    Closed s t (record { good = true; next = t .next + 1; cell = x })
+is-closed s t x g h e q = record { found = λ z. (g, rw (drop-next 0 (t .next) s h, e), q) }
 
 -- digits with no zero in front are a numeral
-number-of :
-    (v : List ℕ) (n : ℕ) → Digits 0 v n → 0 < length v → (getD v 0 0 ≡ ZERO → length v ≤ 1) → number v ≡ some n
-unfolding number leadingZero
+number-of : (v : List ℕ) (n : ℕ) → Digits 0 v n → 0 < length v → (getD v 0 0 ≡ ZERO → ⊥) → number v ≡ some n
 number-of [] n d l z = absurd (omega arith)
-number-of (b ∷ []) n d l z = digits-read d
-number-of (b ∷ c ∷ v) n d l z = number-from b (c ∷ v) (λ e. omega (arith, z e)) ∙ digits-read d
+number-of (b ∷ v) n d l z = number-from b v z ∙ digits-read d
 
 within-bounds : (least most n : ℕ) → least ≤ n → n ≤ most → within least most (some n) ≡ some n
 unfolding within
@@ -130,28 +104,50 @@ head-at s at = getD-drop at s 0 0 ∙ ap (λ (k : ℕ). getD s k 0) whole
 
 module _ (s : List ℕ) (at : ℕ) where
   pub is-numeral :
-      (least most : ℕ) (r : Found) → Run s at r → at < r .next → (getD s at 0 ≡ ZERO → r .next ≤ at + 1) →
-      least ≤ r .cell → r .cell ≤ most → TextFound (inForm numeral least most) s at r
+      (least most : ℕ) (r : Found) → RunFound s at r → at < r .next → (getD s at 0 ≡ ZERO → ⊥) → least ≤ r .cell →
+      r .cell ≤ most → TextFound (inForm numeral least most) s at r
   unfolding inForm
   is-numeral least most r w h z l m =
       record {
-        found = λ p. record {
-          text = w .text;
-          runs = w .runs;
-          means = rw (number-of (w .text) (r .cell) (w .makes) some-digit one-zero) (within-bounds least most (r .cell) l m);
-          inside = w .inside;
-        };
+        found = λ p.
+            let run = w .found p in
+            record {
+              text = run .text;
+              runs = run .runs;
+              means =
+                  rw (number-of (run .text) (r .cell) (run .makes) (some-digit run) (no-zero-leads run))
+                  (within-bounds least most (r .cell) l m);
+              inside = run .inside;
+            };
       }
     where
-      some-digit : 0 < length (w .text)
-      some-digit = omega (arith, w .counted)
+      some-digit : (run : Run s at r) → 0 < length (run .text)
+      some-digit run = omega (arith, run .counted)
 
-      one-zero : getD (w .text) 0 0 ≡ ZERO → length (w .text) ≤ 1
-      one-zero e = omega (arith, w .counted, z (sym (head-at s at) ∙ text-head (w .runs) some-digit ∙ e))
+      no-zero-leads : (run : Run s at r) → getD (run .text) 0 0 ≡ ZERO → ⊥
+      no-zero-leads run e = z (sym (head-at s at) ∙ text-head (run .runs) (some-digit run) ∙ e)
+
+  pub is-zero :
+      (least most : ℕ) (r : Found) → at < length s → getD s at 0 ≡ ZERO → ZeroFound at least r →
+      TextFound (inForm numeral least most) s at r
+  unfolding inForm number leadingZero digitsFrom
+  is-zero least most r h e w =
+      record {
+        found = λ p.
+            let (next, none-less) = w .found p in
+            record {
+              text = ZERO ∷ [];
+              runs =
+                  rw (drop-next 0 at s h, e, next)
+                  (NonEscaped.text {b = ZERO} (above-comma (omega arith) (omega arith)) NonEscaped.none);
+              means = rw (w .cell) (within-bounds least most 0 (omega arith) (omega arith));
+              inside = omega arith;
+            };
+      }
 
   pub is-letter :
       (a b x : ℕ) → at < length s → x ≡ getD s at 0 → 0x41 ≤ x → x ≤ 0x5A → oneOf a b (x ∷ []) ≡ some x →
-      TextFound (inForm letter a b) s at (record { next = at + 1; cell = x })
+      TextFound (inForm letter a b) s at (record { good = true; next = at + 1; cell = x })
   unfolding inForm
   is-letter a b x h e l m o =
       record {
@@ -174,7 +170,7 @@ second-letter a b x n e = simp (ne-eqb x a n, eq-eqb x b e) (ap some (sym e))
 module _ (s : List ℕ) (at minimum maximum : ℕ) where
   pub is-below :
       (r : Found) (x : ℕ) → at < length s → getD s at 0 ≡ MINUS → TextFound (inForm numeral 1 minimum) s (at + 1) r →
-      x ≡ minimum - r .cell → TextFound (inForm signed minimum maximum) s at (record { next = r .next; cell = x })
+      x ≡ minimum - r .cell → TextFound (inForm signed minimum maximum) s at (record { good = r .good; next = r .next; cell = x })
   unfolding inForm excess
   is-below r x h e w q =
       record {
@@ -199,7 +195,7 @@ module _ (s : List ℕ) (at minimum maximum : ℕ) where
 
   pub is-above :
       (r : Found) (x : ℕ) → (getD s at 0 ≡ MINUS → ⊥) → TextFound (inForm numeral 0 maximum) s at r →
-      x ≡ minimum + r .cell → TextFound (inForm signed minimum maximum) s at (record { next = r .next; cell = x })
+      x ≡ minimum + r .cell → TextFound (inForm signed minimum maximum) s at (record { good = r .good; next = r .next; cell = x })
   unfolding inForm number within
   is-above r x n w q =
       record {
@@ -249,12 +245,12 @@ module _ (read : List ℕ → Option ℕ) (s : List ℕ) (at : ℕ) where
 
   pub is-quoted :
       (i r : Found) → 0 < length s → at ≡ one (eqb (getD s 0 0) DQUOTE) → (at ≡ 0 → ⊥) → TextFound read s at i →
-      Closed s (i .next) (i .cell) r → FieldFound read s r
+      Closed s i r → FieldFound read s r
   is-quoted i r h q n w k =
       record {
         found = λ p.
-            let (ends, some-end, inside, same-cell) = k .found p in
-            let t = w .found some-end in
+            let (good, ends, same-cell) = k .found p in
+            let t = w .found good in
             record {
               text = t .text;
               field = whole (t .text) _ (opened (t .runs) ends);

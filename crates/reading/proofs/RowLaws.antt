@@ -12,7 +12,7 @@ use borrow.Author.Tests.{lt-ltb, le-ltb}
 use Rattle.base.proofs.Tests.{false-true}
 use lib.ListN.{length, getD, take, drop, set, length-append, length-drop, length-set, take-append-drop}
 use lib.Seq.{take-suc, take-suc-set, drop-set-lt, getD-drop, drop-drop, take-append-add, drop-append-add, length-take-le}
-use Rattle.base.proofs.Lists.{drop-next, drop-end, rest-lent, rest-back}
+use Rattle.base.proofs.Lists.{drop-next, drop-end, drop-back, rest-lent, rest-back}
 use Rattle.csv.specs.Grammar.{COMMA, CR, LF, Field, Record}
 use Rattle.csv.proofs.Walk.{Breaks, at-end, crlf}
 use Rattle.tables.specs.Table.{
@@ -58,16 +58,20 @@ use Rattle.reading.specs.declared.fields.Found.{Found}
 pub no-separator : (s : List ℕ) (at : ℕ) (further : Bool) → SeparatorFound s at further 0
 no-separator s at further = record { found = λ h. absurd (omega arith) }
 
-module _ (s : List ℕ) (at : ℕ) (n : 0 < at) where
+pub separator-inside :
+    (s : List ℕ) (at next : ℕ) (further : Bool) → SeparatorFound s at further next → (next ≡ 0 → ⊥) → next ≤ length s
+separator-inside s at next further k z =
+    k .found (omega arith) .1
+
+module _ (s : List ℕ) (at : ℕ) where
   pub is-comma : at < length s → getD s at 0 ≡ COMMA → SeparatorFound s at true (at + 1)
-  is-comma h e = record { found = λ z. (rw (drop-next 0 at s h, e) Separates.comma, n, omega arith) }
+  is-comma h e = record { found = λ z. (rw (drop-next 0 at s h, e) Separates.comma, omega arith) }
 
   pub is-end : length s ≤ at → SeparatorFound s at false (length s)
   is-end h =
       record {
         found = λ z. (
           rw (drop-end at s h, drop-end (length s) s (omega arith)) (Separates.end at-end),
-          n,
           omega arith,
         );
       }
@@ -79,7 +83,6 @@ module _ (s : List ℕ) (at : ℕ) (n : 0 < at) where
       record {
         found = λ z. (
           rw (drop-next 0 at s (omega arith), c, drop-next 0 (at + 1) s h, l, two) (Separates.end crlf),
-          n,
           omega arith,
         );
       }
@@ -157,17 +160,19 @@ next-column first c h =
 take-set : (l : List ℕ) (c v : ℕ) → c < length l → take (c + 1) (set l c v) ≡ take c l ++ v ∷ []
 take-set l c v h = rw add-one (take-suc-set l c v h)
 
--- a row of n columns of which c fields are laid down, and what follows them stands at i
-pub record LayingTo (s : List ℕ) (first n : ℕ) (old new : List ℕ) (i c : ℕ) : Type 0 where
+-- a row of n columns of which c fields are laid down, and the rest that follows them
+pub record LayingTo (s : List ℕ) (first n : ℕ) (old new rest : List ℕ) (c : ℕ) : Type 0 where
   pub upto : c ≤ n
   pub fits : first + n ≤ 17
   pub room : n ≤ length old
   pub same-length : length new ≡ length old
   pub values : List (List ℕ)
-  pub parts : Parted s (ltb c n) values (drop i s)
+  pub at : ℕ
+  pub suffix : rest ≡ drop at s
+  pub shorter : length rest ≤ length s
+  pub parts : Parted s (ltb c n) values rest
   pub cells : CellsOf (take c (columnsFrom first)) values (take c new)
   pub kept : drop c new ≡ drop c old
-  pub inside : i ≤ length s
 
 file-columns : (f : File) → (1 ≤ width f) × (firstColumn f + width f ≤ 17)
 unfolding width constraintColumns supplyColumns schedulesColumns
@@ -183,7 +188,7 @@ whole-columns Schedules = refl
 
 pub laying-none :
     (f : File) (s : List ℕ) (first n : ℕ) (old : List ℕ) → first ≡ firstColumn f → n ≡ width f → n ≤ length old →
-    LayingTo s first n old old 0 0
+    LayingTo s first n old old s 0
 laying-none f s first n old e d r =
     record {
       upto = omega arith;
@@ -191,41 +196,37 @@ laying-none f s first n old e d r =
       room = r;
       same-length = refl;
       values = [];
+      at = 0;
+      suffix = refl;
+      shorter = omega arith;
       parts = rw (lt-ltb 0 n (omega (arith, file-columns f))) (still Led.none);
       cells = CellsOf.none;
       kept = refl;
-      inside = omega arith;
     }
 
-module _ (s : List ℕ) (first n : ℕ) (old new : List ℕ) (i c : ℕ) (w : LayingTo s first n old new i c) where
+module _ (s : List ℕ) (first n : ℕ) (old new rest : List ℕ) (c : ℕ) (w : LayingTo s first n old new rest c) where
   pub stored-length : (x : ℕ) → length (set new c x) ≡ length old
   stored-length x = length-set new c x ∙ w .same-length
 
-  pub laying-inside :
-      (at next : ℕ) (further : Bool) → SeparatorFound (take (length s - i) (drop i s)) at further next → (next ≡ 0 → ⊥) →
-      i + next ≤ length s
-  laying-inside at next further k z =
-      let (separates, some-next, inside) = (rw (rest-lent i s) at k) .found (omega arith) in
-      omega (arith, inside, w .inside, length-drop i s)
-
   pub laying-next :
-      (fs ls ms : List ℕ) (r : Found) (next : ℕ) → c < n → Ranges fs ls ms →
-      FieldFound (inForm (formOf (getD fs (first + c) 0)) (getD ls (first + c) 0) (getD ms (first + c) 0))
-      (take (length s - i) (drop i s)) r →
-      SeparatorFound (take (length s - i) (drop i s)) (r .next) (ltb (c + 1) n) next → (next ≡ 0 → ⊥) →
-      LayingTo s first n old (set new c (r .cell)) (i + next) (c + 1)
-  laying-next fs ls ms r next h t q k z =
-      let (separates, some-next, inside) = (rw (rest-lent i s) at k) .found (omega arith) in
-      let d = (rw (rest-lent i s) at q) .found some-next in
-      record {
+      (fs ls ms : List ℕ) (r : Found) (next : ℕ) → c < n → Ranges fs ls ms → r .good ≡ true →
+      FieldFound (inForm (formOf (getD fs (first + c) 0)) (getD ls (first + c) 0) (getD ms (first + c) 0)) rest r →
+      SeparatorFound rest (r .next) (ltb (c + 1) n) next → (next ≡ 0 → ⊥) →
+      LayingTo s first n old (set new c (r .cell)) (take (length rest - next) (drop next rest)) (c + 1)
+  laying-next fs ls ms r next h t g q k z =
+      let (separates, inside) = k .found (omega arith) in
+      let d = q .found g in
+      rw (rest-lent next rest)
+      (record {
         upto = omega arith;
         fits = w .fits;
         room = w .room;
         same-length = stored-length (r .cell);
         values = w .values ++ d .text ∷ [];
-        parts =
-            rw (← drop-drop next i s)
-            (part-more (rw (lt-ltb c n h) at (w .parts)) (d .field) separates);
+        at = w .at + next;
+        suffix = rw (w .suffix) (drop-drop next (w .at) s);
+        shorter = omega (arith, w .shorter, length-drop next rest);
+        parts = part-more (rw (lt-ltb c n h) at (w .parts)) (d .field) separates;
         cells =
             rw (next-column first c (omega (arith, w .fits)), take-set new c (r .cell) (omega (arith, w .room, w .same-length)))
             (cells-more (columnAt (first + c)) (d .text) (w .cells) (sym (range-value fs ls ms t (first + c) (d .text)) ∙ d .means));
@@ -234,14 +235,13 @@ module _ (s : List ℕ) (first n : ℕ) (old new : List ℕ) (i c : ℕ) (w : La
             ∙ sym (drop-drop 1 c new)
             ∙ ap (drop 1) (w .kept)
             ∙ drop-drop 1 c old;
-        inside = laying-inside (r .next) next (ltb (c + 1) n) k z;
-      }
+      })
 
   parted-over : {b : Bool} {vs : List (List ℕ)} {r : List ℕ} → Parted s b vs r → b ≡ false → (e : List ℕ) × Record s vs e × Breaks e r
   parted-over (still l) z = false-true (sym z)
   parted-over (over {e = e} d b) z = (e, d, b)
 
-  pub laying-over : (f : File) → first ≡ firstColumn f → n ≡ width f → n ≤ c → RowFound f s old new i
+  pub laying-over : (f : File) → first ≡ firstColumn f → n ≡ width f → n ≤ c → RowFound f s old new (length s - length rest)
   laying-over f e d h =
       let all : c ≡ width f = omega (arith, w .upto) in
       let (ends, row, breaks) = parted-over (w .parts) (le-ltb c n h) in
@@ -251,16 +251,26 @@ module _ (s : List ℕ) (first n : ℕ) (old new : List ℕ) (i c : ℕ) (w : La
             values = w .values;
             ends = ends;
             row = row;
-            breaks = breaks;
+            breaks = rw rest-again breaks;
             cells = rw (← whole-columns f, ← e, ← all) (w .cells);
-            inside = w .inside;
+            inside = omega arith;
           },
           rw (← all) (w .kept),
         );
       }
+    where
+      rest-again : drop (length s - length rest) s ≡ rest
+      rest-again =
+          ap (λ (l : List ℕ). drop (length s - length l) s) (w .suffix) ∙ drop-back (w .at) s ∙ sym (w .suffix)
 
 pub no-row : (f : File) (s old new : List ℕ) → RowFound f s old new 0
 no-row f s old new = record { found = λ h. absurd (omega arith) }
+
+pub row-inside :
+    (f : File) (s old new : List ℕ) (next : ℕ) → RowFound f s old new next → (next ≡ 0 → ⊥) → next ≤ length s
+row-inside f s old new next w z =
+    let (r, same-behind) = w .found (omega arith) in
+    r .inside
 
 -- one more row
 
@@ -284,23 +294,22 @@ most-small Constraint = omega arith
 most-small Supply = omega arith
 most-small Schedules = omega arith
 
--- k rows are laid down as far as `at`, and the next stands at i
-pub record Walked (f : File) (s old new : List ℕ) (i at k : ℕ) : Type 0 where
+-- k rows are laid down as far as `at`, and the rest that follows them
+pub record Walked (f : File) (s old new rest : List ℕ) (at k : ℕ) : Type 0 where
   pub upto : k ≤ table f .mostRows
   pub room : at + (table f .mostRows - k) * width f ≤ length old
   pub same-length : length new ≡ length old
   pub values : List (List (List ℕ))
-  pub rows : Rows s values (drop i s)
+  pub rows : Rows s values rest
   pub read : RowsOf (table f .columns) values (take at new)
   pub counted : k ≡ length values
   pub kept : drop at new ≡ drop at old
-  pub inside : i ≤ length s
 
 pub no-rows : (f : File) (s old new : List ℕ) → RowsFound f s old new 0
 no-rows f s old new = record { found = λ h. absurd (omega arith) }
 
 module _ (f : File) (s old : List ℕ) where
-  pub walked-none : room f ≤ length old → Walked f s old old 0 0 0
+  pub walked-none : room f ≤ length old → Walked f s old old s 0 0
   unfolding room
   walked-none r =
       record {
@@ -312,7 +321,6 @@ module _ (f : File) (s old : List ℕ) where
         read = RowsOf.none;
         counted = refl;
         kept = refl;
-        inside = omega arith;
       }
     where
       whole : 0 + (table f .mostRows - 0) * width f ≡ table f .mostRows * width f
@@ -325,23 +333,15 @@ module _ (f : File) (s old : List ℕ) where
       let e : n - k ≡ suc (n - (k + 1)) = omega arith in
       rw (e, suc-mul (n - (k + 1)) (width f)) (omega arith)
 
-  module _ (new : List ℕ) (i at k : ℕ) (w : Walked f s old new i at k) where
+  module _ (new rest : List ℕ) (at k : ℕ) (w : Walked f s old new rest at k) where
     -- there is room for one more
     pub walked-room : k < table f .mostRows → at + width f ≤ length new
     walked-room h = omega (arith, w .room, w .same-length, rows-left (table f .mostRows) k h)
 
-    pub walked-inside :
-        (now : List ℕ) (next : ℕ) →
-        RowFound f (take (length s - i) (drop i s)) (take (length new - at) (drop at new)) now next → (next ≡ 0 → ⊥) →
-        i + next ≤ length s
-    walked-inside now next q n =
-        let (r, same-behind) = (rw (rest-lent i s) at q) .found (omega arith) in
-        omega (arith, r .inside, w .inside, length-drop i s)
-
     walked-next :
-        (now : List ℕ) (next : ℕ) → k < table f .mostRows → i < length s → RowFound f (drop i s) (drop at new) now next →
+        (now : List ℕ) (next : ℕ) → k < table f .mostRows → 0 < length rest → RowFound f rest (drop at new) now next →
         (next ≡ 0 → ⊥) → length now ≡ length (drop at new) →
-        Walked f s old (take at new ++ now) (i + next) (at + width f) (k + 1)
+        Walked f s old (take at new ++ now) (drop next rest) (at + width f) (k + 1)
     walked-next now next h l q n e =
         let (r, same-behind) = q .found (omega arith) in
         record {
@@ -352,12 +352,10 @@ module _ (f : File) (s old : List ℕ) where
               ∙ (omega (arith, e, length-drop at new, front, walked-room h, w .same-length));
           values = w .values ++ r .values ∷ [];
           rows =
-              rw (← drop-drop next i s)
-              (rows-more (rw (drop-next 0 i s l) at (w .rows)) (rw (drop-next 0 i s l) at (r .row)) (r .breaks));
+              rows-more (rw (drop-next 0 0 rest l) at (w .rows)) (rw (drop-next 0 0 rest l) at (r .row)) (r .breaks);
           read = rw taken (rows-of-more (w .read) (r .cells));
           counted = omega (arith, w .counted, length-append (w .values) (r .values ∷ []));
           kept = dropped ∙ same-behind ∙ drop-drop (width f) at new ∙ later;
-          inside = omega (arith, r .inside, w .inside, length-drop i s);
         }
       where
         front : length (take at new) ≡ at
@@ -374,21 +372,23 @@ module _ (f : File) (s old : List ℕ) where
 
     -- the next row, as lending the rest of the cells has it
     pub walked-turn :
-        (now : List ℕ) (next columns : ℕ) → columns ≡ width f → k < table f .mostRows → i < length s →
-        RowFound f (take (length s - i) (drop i s)) (take (length new - at) (drop at new)) now next → (next ≡ 0 → ⊥) →
+        (now : List ℕ) (next columns : ℕ) → columns ≡ width f → k < table f .mostRows → 0 < length rest →
+        RowFound f rest (take (length new - at) (drop at new)) now next → (next ≡ 0 → ⊥) →
         length now ≡ length (take (length new - at) (drop at new)) →
-        Walked f s old (take at new ++ (now ++ drop (length new - at) (drop at new))) (i + next) (at + columns) (k + 1)
+        Walked f s old (take at new ++ (now ++ drop (length new - at) (drop at new)))
+        (take (length rest - next) (drop next rest))
+        (at + columns) (k + 1)
     walked-turn now next columns c h l q n e =
-        rw (c, rest-back at new, append-nil now)
-        (walked-next now next h l (rw (rest-lent at new, rest-lent i s) at q) n (rw (rest-lent at new) at e))
+        rw (c, rest-back at new, append-nil now, rest-lent next rest)
+        (walked-next now next h l (rw (rest-lent at new) at q) n (rw (rest-lent at new) at e))
 
-    pub walked-over : length s ≤ i → RowsFound f s old new (k + 1)
+    pub walked-over : length rest ≤ 0 → RowsFound f s old new (k + 1)
     walked-over h =
         record {
           found = λ z. record {
             values = w .values;
             cells = take at new;
-            rows = rw (drop-end i s h) at (w .rows);
+            rows = rw (drop-end 0 rest h) at (w .rows);
             read = w .read;
             laid = sym (take-append-drop at new) ∙ rw (w .kept, front);
             counted = omega (arith, w .counted);

@@ -2,7 +2,7 @@
 // begins with it, and the separators behind fields. A place of 0 says that a step was given up.
 ghost use mathlib.Core.Path.{_≡_};
 ghost use mathlib.Core.Bool.{true, false};
-ghost use Prim.Native.Nat.{_≤_, _<_};
+ghost use Prim.Native.Nat.{_≤_};
 ghost use lib.ListN.{length};
 ghost use Rattle.tables.specs.Table.{width as Table·width};
 ghost use Rattle.tables.specs.Laying.{room};
@@ -34,18 +34,18 @@ pub fn lay_rows(
 {
     let columns = width(file);
     let most = most_rows(file);
-    let mut i = 0;
+    let mut rest = s;
     let mut at = 0;
     let mut k = 0;
-    while i < s.len() {
+    while 0 < rest.len() {
         if most <= k {
             return 0;
         }
-        let next = lay_row(file, &s[i..], forms, minima, maxima, &mut cells[at..]);
+        let next = lay_row(file, rest, forms, minima, maxima, &mut cells[at..]);
         if next == 0 {
             return 0;
         }
-        i += next;
+        rest = &rest[next..];
         at += columns;
         k += 1;
     }
@@ -67,30 +67,29 @@ fn lay_row(
 {
     let first = first_column(file);
     let columns = width(file);
-    let mut i = 0;
+    let mut rest = s;
     let mut c = 0;
     while c < columns {
         let column = first + c;
-        let rest = &s[i..];
         let found = field(forms[column], minima[column], maxima[column], rest);
+        if !found.good {
+            return 0;
+        }
         out[c] = found.cell;
         c += 1;
         let next = separator(rest, found.next, c < columns);
         if next == 0 {
             return 0;
         }
-        i += next;
+        rest = &rest[next..];
     }
-    i
+    s.len() - rest.len()
 }
 
 // Behind the separator at a place: a COMMA where more fields of the record follow, else its end.
 fn separator(s: &[u8], at: usize, more: bool) -> usize
     ensures { λ r. ⌜ SeparatorFound (now (s .entry)) at more r ⌝ }
 {
-    if at == 0 {
-        return 0;
-    }
     if more {
         return comma_end(s, at);
     }
@@ -98,7 +97,6 @@ fn separator(s: &[u8], at: usize, more: bool) -> usize
 }
 
 fn comma_end(s: &[u8], at: usize) -> usize
-    requires { ⌜ 0 < at ⌝ }
     ensures { λ r. ⌜ SeparatorFound (now (s .entry)) at true r ⌝ }
 {
     if s.len() <= at {
@@ -112,7 +110,6 @@ fn comma_end(s: &[u8], at: usize) -> usize
 
 // Behind CR LF, or at the file's end.
 fn record_end(s: &[u8], at: usize) -> usize
-    requires { ⌜ 0 < at ⌝ }
     ensures { λ r. ⌜ SeparatorFound (now (s .entry)) at false r ⌝ }
 {
     let end = s.len();

@@ -1,10 +1,7 @@
 -- A field in quotes or not. Assumes nothing.
 use native.Mathlib.Omega.{arith}
-use lib.Dec.{eqb}
-use lib.ListN.{getD}
-use Rattle.base.proofs.Searches.{one-le}
-use Rattle.reading.proofs.FieldLaws.{no-field, is-plain, is-quoted}
 use borrow.Author.Needs.{needs}
+use Rattle.reading.proofs.FieldLaws.{no-field, is-plain, is-quoted}
 use Rattle.reading.proofs.fields.field.Statement.{statement}
 use Rattle.reading.proofs.fields.field.Tie as tie
 
@@ -12,16 +9,16 @@ given-up-requires : tie.Need-given-up-requires
 given-up-requires c κs = search needs
 
 returns : tie.Need-returns
-returns c = no-field _ _ _ (omega arith)
+returns c = no-field _ _ _ (c .given-up .ensures .0)
 
 shared-slice-read-quote-length : tie.Need-shared-slice-read-quote-length
-shared-slice-read-quote-length c = search needs
+shared-slice-read-quote-length c = omega arith
 
 quote-length-requires : tie.Need-quote-length-requires
 quote-length-requires c κs = search needs
 
 text-requires : tie.Need-text-requires
-text-requires c κs = (omega arith, omega (arith, c .quote-length .ensures, one-le (eqb (getD (c .before .before .before .before .args .s .now) 0 0) 0x22)))
+text-requires c κs = omega arith
 
 returns-2 : tie.Need-returns-2
 returns-2 c = is-plain _ _ _ _ (omega arith) (c .before .text .ensures)

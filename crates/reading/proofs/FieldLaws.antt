@@ -1,12 +1,11 @@
 -- Laws of a field at a place of a file: its digits one after the other, its cell by the form, its quotes. Assumes nothing.
-use Prim.Native.Nat.{ℕ, zero, suc, _+_, _-_, _*_, _≤_, _<_}
+use Prim.Native.Nat.{ℕ, zero, _+_, _-_, _≤_, _<_}
 use mathlib.Core.Path.{_≡_, refl, sym, _∙_, ap}
-use mathlib.Core.Logic.{_≢_}
-use mathlib.Core.Bool.{Bool, true, false, cond, _&&_}
+use mathlib.Core.Bool.{Bool, true, false}
 use mathlib.Core.List.{List, [], _∷_, _++_}
-use mathlib.Core.Option.{Option, none, some, Option·map}
+use mathlib.Core.Option.{Option, none, some}
 use native.Mathlib.Omega.{arith}
-use lib.Dec.{eqb, leb}
+use lib.Dec.{eqb}
 use lib.ListN.{length, getD, drop, length-append}
 use lib.Seq.{getD-drop}
 use borrow.Author.Tests.{eq-eqb, ne-eqb, le-leb, eqb-true}
@@ -19,7 +18,7 @@ use Rattle.numeral.specs.Numeral.{ZERO, Digit, withDigit, Digits, number, leadi
 use Rattle.numeral.proofs.Reading.{digits-read, number-from, none-some}
 use Rattle.tables.specs.Table.{numeral, signed, letter}
 use Rattle.tables.specs.Values.{MINUS, inForm, excess, oneOf}
-use Rattle.reading.specs.Walk.{Run, RunFound, ZeroFound, Texted, TextFound, Fielded, FieldFound, Closed, formOf}
+use Rattle.reading.specs.Walk.{Run, RunFound, ZeroFound, TextFound, FieldFound, Closed, formOf}
 use Rattle.reading.specs.declared.fields.Found.{Found}
 
 -- one more byte at the end of a text

@@ -1,6 +1,5 @@
 // Rows as parts of a file that begin where the row begins, each field handed on as the part that
 // begins with it, and the separators behind fields. A place of 0 says that a step was given up.
-ghost use mathlib.Core.Path.{_≡_};
 ghost use mathlib.Core.Bool.{true, false};
 ghost use Prim.Native.Nat.{_≤_};
 ghost use lib.ListN.{length};

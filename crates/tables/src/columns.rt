@@ -9,7 +9,7 @@ use crate::files::File;
 use numeral::Answer;
 
 // The columns of the three files, one file behind the other.
-pub const COLUMNS: usize = 17;
+const COLUMNS: usize = 17;
 
 // A numeral.
 pub const NUMERAL: u8 = 0;

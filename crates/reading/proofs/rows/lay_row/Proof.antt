@@ -1,5 +1,6 @@
 -- A row, one field a turn. Assumes nothing.
 use Prim.Native.Nat.{_+_, _-_}
+use mathlib.Core.Path.{refl}
 use native.Mathlib.Omega.{arith}
 use borrow.Author.Needs.{needs}
 use borrow.Author.Tests.{not-false}
@@ -80,7 +81,7 @@ loop-less : tie.Need-loop-less Inv-loop μ-loop
 loop-less c = omega arith
 
 loop-again : tie.Need-loop-again Inv-loop μ-loop
-loop-again c = laying-next _ _ _ _ _ _ _ (c .before .before .before .before .before .before .before .before .before .before .loop .inv) _ _ _ (c .before .before .before .before .before .field .result) _ (omega arith) (c .before .before .before .before .before .before .before .before .before .before .before .before .before .before .before .before .before .before .pre .0) (not-false _ (c .before .before .before .if1 .left)) (c .before .before .before .before .before .field .ensures) (c .before .before .separator .ensures) (c .before .if2 .left)
+loop-again c = laying-next _ _ _ _ _ _ _ (c .before .before .before .before .before .before .before .before .before .before .loop .inv) _ _ _ (c .before .before .before .before .before .field .result) _ _ (omega arith) (c .before .before .before .before .before .before .before .before .before .before .before .before .before .before .before .before .before .before .pre .0) (not-false _ (c .before .before .before .if1 .left)) (c .before .before .before .before .before .field .ensures) (c .before .before .separator .ensures) refl (c .before .if2 .left)
 
 sub-result : tie.Need-sub-result Inv-loop μ-loop
 sub-result c = c .before .loop .inv .shorter

@@ -4,7 +4,7 @@
  * Holds for each call: a run of bytes or amounts is a pointer, then how many there are, and no pointer may be NULL, not even
  * with length 0. Everything belongs to the caller: what is const is only read, what isn't is written during the call, and
  * nothing is kept or freed. What is written may overlap nothing else that is lent to the same call. There is no state, so
- * threads may call at the same time. A call takes up to 240 KiB of stack.
+ * threads may call at the same time. A call takes up to 264 KiB of stack.
  *
  * A file of length 0 is one record with one blank field. docs/REFUSALS.md says what each number means and how to mend it. */
 #ifndef CAPPING_H

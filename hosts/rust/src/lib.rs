@@ -1,5 +1,5 @@
 //! The offer capping engine as Rust programs call it: check three files, study them on a fresh day, test one supplier.
-//! There is no state, so threads may call at the same time. A call takes up to 240 KiB of stack.
+//! There is no state, so threads may call at the same time. A call takes up to 264 KiB of stack.
 //!
 //! ```
 //! let [c, s, h] = ["constraint.csv", "supply.csv", "schedules.csv"].map(|name| std::fs::read(name).unwrap_or_default());

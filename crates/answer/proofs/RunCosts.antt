@@ -16,8 +16,7 @@ use Rattle.tables.specs.Ranges.{PermittedSchedule}
 use Rattle.tables.specs.Rows.{ScheduleRow}
 use Rattle.schedules.specs.Schedules.{scheduleOdds, schedulesAtOdds, own}
 use Rattle.schedules.proofs.OddsLaws.{odds-hours}
-use Rattle.commitment.specs.Cost.{hourCost, runningCost, inItsRun, share, runCost, startingCost, cost}
-use Rattle.commitment.specs.Ranges.{InRange}
+use Rattle.choice.specs.Cost.{hourCost, runningCost, inItsRun, share, runCost, startingCost, cost}
 use Rattle.commitment.proofs.CostLaws.{mostHour, hour-small}
 use Rattle.judge.proofs.SearchLaws.{odds-none}
 
@@ -28,18 +27,6 @@ mostStartup = 100000000
 -- the most that a schedule costs: each hour of the day, and startup
 abbrev pub mostCost : ℕ
 mostCost = suc lastHour * mostHour + 10 * mostStartup
-
-pub in-range : {r : ScheduleRow} → PermittedSchedule r → InRange r
-in-range p =
-    record {
-      hour = p .hour;
-      ecomin = p .ecomin;
-      price = p .price;
-      noload = p .noload;
-      startup = p .startup;
-      least-minrun = p .some-minrun;
-      minrun = p .minrun;
-    }
 
 -- what the rows that pass a test cost
 unfoldable costOf : (ScheduleRow → Bool) → List ScheduleRow → ℕ
@@ -112,7 +99,7 @@ module _ (u x : ℕ) where
       go true true f g fits h =
           let (y, m, of-y) = any-mem (at k) seen g in
           false-true (sym (none-mem (scheduleOdds r) seen y fits m) ∙ at-odds k r y f of-y)
-      go true false f g fits h = omega (arith, hour-small r (in-range p))
+      go true false f g fits h = omega (arith, hour-small r p)
       go false v f g fits h = omega arith
 
   -- hour by hour
@@ -171,5 +158,5 @@ module _ (h u : ℕ) (s : ScheduleRow) where
   module _ (rs : List ScheduleRow) (a : All PermittedSchedule rs) (e : schedulesAtOdds rs ≡ none) (p : PermittedSchedule s) where
     pub cost-small : (running : Bool) → cost running h (own u rs) s ≤ mostCost
     unfolding cost runningCost startingCost
-    cost-small true = omega (arith, hour-small s (in-range p))
+    cost-small true = omega (arith, hour-small s p)
     cost-small false = omega (arith, run-within rs, hours-small u (s .schedule) rs a e (suc lastHour), p .startup)

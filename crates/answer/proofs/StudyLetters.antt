@@ -8,7 +8,7 @@ use Rattle.tables.specs.declared.files.Kind.{Kind}
 use Rattle.tables.specs.declared.files.Kind.the-variants.{M, C}
 use Rattle.supply.specs.Supply.{units}
 use Rattle.market.specs.Parties.{party}
-use Rattle.commitment.specs.Exposure.{Verdict, U, P, F}
+use Rattle.choice.specs.Exposure.{Verdict, U, P, F}
 use Rattle.judge.specs.Answer.{verdictLetter}
 use Rattle.judge.specs.Day.{RunningUnit}
 use Rattle.judge.specs.Decision.{unitRow, verdictOf, chosenOr, choiceOf, decidedRow, decided}

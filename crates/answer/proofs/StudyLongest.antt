@@ -9,24 +9,22 @@ use mathlib.Core.Option.{none}
 use native.Mathlib.Omega.{arith}
 use lib.ListN.{length}
 use Rattle.base.specs.Search.{All}
-use Rattle.base.proofs.Elements.{all-mem, all-those}
+use Rattle.base.proofs.Elements.{all-mem, all-those, those-mem}
 use Rattle.base.proofs.Tests.{eq-or-ne, lt-or-ge}
 use Rattle.tables.specs.Ranges.{PermittedSupply, PermittedSchedule}
 use Rattle.tables.specs.Rows.{ConstraintRow, SupplyRow, ScheduleRow}
-use Rattle.tables.specs.Table.{table, columnAt, allColumns, constraintColumns, supplyColumns, schedulesColumns}
+use Rattle.tables.specs.Table.{table}
 use Rattle.tables.specs.declared.files.File.the-variants.{Supply}
 use Rattle.filing.specs.Filing.{constraintOf, supplyOf, schedulesOf}
 use Rattle.schedules.specs.Schedules.{own, schedulesAtOdds}
 use Rattle.supply.specs.Supply.{units}
 use Rattle.market.specs.Clearing.{eligibleSupply}
-use Rattle.market.specs.Ranges.{Permitted}
 use Rattle.market.specs.Removals.{remaining, relevantWithout}
-use Rattle.market.proofs.RangeLaws.{mostSupply, supply-of-small}
-use Rattle.commitment.specs.Choosing.{shown}
-use Rattle.commitment.specs.Exposure.{U}
-use Rattle.commitment.specs.Schedules.{atHour, schedules, running as runs}
-use Rattle.commitment.specs.declared.choosing.Choice.{Choice}
-use Rattle.commitment.proofs.PassingLaws.{among-passing}
+use Rattle.offers.proofs.RangeLaws.{mostSupply, supply-of-small}
+use Rattle.choice.specs.Choosing.{shown}
+use Rattle.choice.specs.Exposure.{U}
+use Rattle.choice.specs.Schedules.{atHour, schedules, running as runs}
+use Rattle.choice.specs.declared.choosing.Choice.{Choice}
 use Rattle.judge.specs.Answer.{AnswerRow, verdictLetter}
 use Rattle.judge.specs.Day.{RunningUnit, DayView, kindRunning}
 use Rattle.judge.specs.Decision.{unitRow, need, cleared, decidedRow}
@@ -41,10 +39,6 @@ use Rattle.answer.proofs.LongestLaws.{answer-most}
 use Rattle.answer.proofs.RunCosts.{cost-small}
 use Rattle.answer.proofs.StudyRows.{studyRow, study-all, study-count}
 
-pub permitted : {r : SupplyRow} → PermittedSupply r → Permitted r
-unfolding columnAt allColumns constraintColumns supplyColumns schedulesColumns
-permitted p = record { mw = p .mw; cost = p .cost; dfax = p .dfax }
-
 -- what is left is what some removal leaves, and that is at most what all rows supply
 module _
     (c : ConstraintRow) (supply : List SupplyRow) (positive : 0 < c .cutoff) (needs-some : 0 < need c supply)
@@ -53,7 +47,7 @@ module _
     remaining-small : (q : SupplyRow) (taken : List ℕ) → remaining (c .cutoff) q taken supply ≤ table Supply .mostRows * mostSupply
     unfolding remaining
     remaining-small q taken =
-        omega (arith, supply-of-small (relevantWithout (c .cutoff) q taken) supply (λ r m. permitted (all-mem a m)))
+        omega (arith, supply-of-small (relevantWithout (c .cutoff) q taken) supply (λ r m. all-mem a m))
 
     left-small : {k v l : ℕ} → RightTest c supply k v l → l < 10 ^ leftDigits
     left-small {k} {v} {l} t = ⊎-elim untested tested (eq-or-ne v (verdictLetter U))
@@ -77,7 +71,7 @@ module _
     row-permitted : PermittedSchedule (t .right .row)
     unfolding own schedules
     row-permitted =
-        all-mem (all-those _ a) (among-passing (atHour (c .hour)) (own (r .unit) scheduled) (t .right .is-eligible .of-the-unit) .0)
+        all-mem (all-those _ a) (those-mem (atHour (c .hour)) (own (r .unit) scheduled) (t .right .is-eligible .of-the-unit) .0)
 
     schedule-small : r .schedule < 10 ^ scheduleDigits
     unfolding shown

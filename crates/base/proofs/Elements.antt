@@ -1,10 +1,10 @@
 -- Elements of a list, and the searches over them. Assumes nothing.
-use mathlib.Core.Path.{_≡_, refl, sym, _∙_}
+use mathlib.Core.Path.{_≡_, refl, sym, _∙_, ap}
 use mathlib.Core.Logic.{⊎-elim}
 use mathlib.Core.Bool.{Bool, true, false, cond}
-use mathlib.Core.List.{List, [], _∷_, List·Memᴰ, List·Memᴰ·head, List·Memᴰ·tail}
+use mathlib.Core.List.{List, [], _∷_, map, List·Memᴰ, List·Memᴰ·head, List·Memᴰ·tail, List·Memᴰ·cases-cons}
 use Rattle.base.specs.Search.{any, those, All, all-none, all-more}
-use Rattle.base.proofs.Finds.{any-later}
+use Rattle.base.proofs.Finds.{any-later, those-here, those-later}
 use Rattle.base.proofs.Tests.{either, or-fst, or-snd, false-true}
 
 pub all-mem : {A : Type 0} {P : A → Type 0} {xs : List A} {x : A} → All P xs → List·Memᴰ x xs → P x
@@ -49,6 +49,43 @@ module _ {A : Type 0} (p : A → Bool) where
       go : (t : Bool) → All P (those p xs) → All P (cond t (x ∷ those p xs) (those p xs))
       go true b = all-more q b
       go false b = b
+
+  -- an element is among those that pass exactly when it is among all, and passes
+  pub mem-those : {x : A} {xs : List A} → List·Memᴰ x xs → p x ≡ true → List·Memᴰ x (those p xs)
+  mem-those {x} (List·Memᴰ·head {x = y} {xs = ys} e) t = rw (those-here p y ys (ap p (sym e) ∙ t)) (List·Memᴰ·head e)
+  mem-those {x} (List·Memᴰ·tail {x = y} {xs = ys} m) t = go (p y) refl (mem-those m t)
+    where
+      go : (u : Bool) → p y ≡ u → List·Memᴰ x (those p ys) → List·Memᴰ x (those p (y ∷ ys))
+      go true e n = rw (those-here p y ys e) (List·Memᴰ·tail n)
+      go false e n = rw (those-later p y ys e) n
+
+  pub those-mem : {x : A} (xs : List A) → List·Memᴰ x (those p xs) → List·Memᴰ x xs × (p x ≡ true)
+  unfolding those
+  those-mem [] m = elim m [ ]
+  those-mem {x} (y ∷ ys) m = go (p y) refl m (those-mem ys)
+    where
+      go :
+          (u : Bool) → p y ≡ u → List·Memᴰ x (cond u (y ∷ those p ys) (those p ys)) →
+          (List·Memᴰ x (those p ys) → List·Memᴰ x ys × (p x ≡ true)) →
+          List·Memᴰ x (y ∷ ys) × (p x ≡ true)
+      go true e n h =
+          ⊎-elim (λ f. (List·Memᴰ·head f, ap p f ∙ e)) (λ n. (List·Memᴰ·tail (h n .0), h n .1)) (List·Memᴰ·cases-cons n)
+      go false e n h = (List·Memᴰ·tail (h n .0), h n .1)
+
+-- elements of what a function makes of a list
+module _ {A B : Type 0} (f : A → B) where
+  pub mem-map : {x : A} {xs : List A} → List·Memᴰ x xs → List·Memᴰ (f x) (map f xs)
+  mem-map (List·Memᴰ·head e) = List·Memᴰ·head (ap f e)
+  mem-map (List·Memᴰ·tail m) = List·Memᴰ·tail (mem-map m)
+
+  pub map-mem : {y : B} (xs : List A) → List·Memᴰ y (map f xs) → (x : A) × List·Memᴰ x xs × (y ≡ f x)
+  map-mem [] m = elim m [ ]
+  map-mem {y} (x ∷ xs) m = ⊎-elim (λ e. (x, List·Memᴰ·head refl, e)) (further (map-mem xs)) (List·Memᴰ·cases-cons m)
+    where
+      further :
+          (List·Memᴰ y (map f xs) → (z : A) × List·Memᴰ z xs × (y ≡ f z)) → List·Memᴰ y (map f xs) →
+          (z : A) × List·Memᴰ z (x ∷ xs) × (y ≡ f z)
+      further h n = (h n .0, List·Memᴰ·tail (h n .1), h n .2)
 
 -- two tests of which each finds nothing where the other does
 pub any-agree :

@@ -7,14 +7,15 @@ use native.Mathlib.Nat.{mul-le-mul}
 use native.Mathlib.Omega.{arith}
 use lib.ListN.{length, drop}
 use borrow.Author.Tests.{eq-eqb, ne-eqb}
-use Rattle.market.specs.Offer.{capped, highest}
+use Rattle.offers.specs.Offer.{capped, highest}
 use Rattle.tables.specs.Hours.{inRun}
+use Rattle.tables.specs.Ranges.{PermittedSchedule}
 use Rattle.tables.specs.Rows.{ScheduleRow, kindOf, scheduleRows}
 use Rattle.tables.specs.declared.files.Kind.{Kind}
 use Rattle.tables.specs.declared.files.Kind.the-variants.{M, C}
 use Rattle.tables.proofs.RowViews.{schedule-length}
-use Rattle.commitment.specs.Ranges.{InRange, UnitRows, rowAt}
-use Rattle.commitment.specs.Cost.{offerPrice, price, hourCost, inItsRun, share, runCost}
+use Rattle.commitment.specs.Ranges.{UnitRows, rowAt}
+use Rattle.choice.specs.Cost.{offerPrice, price, hourCost, inItsRun, share, runCost}
 use Rattle.commitment.proofs.UnitLaws.{rows-next, rows-end}
 
 offer-small : (k : Kind) (listed : ℕ) → listed ≤ highest → offerPrice k listed ≤ highest
@@ -26,7 +27,7 @@ offer-small C listed h = omega arith
 abbrev pub mostHour : ℕ
 mostHour = 100000 * highest + 10 * 100000000
 
-module _ (row : ScheduleRow) (r : InRange row) where
+module _ (row : ScheduleRow) (r : PermittedSchedule row) where
   pub output-small : row .ecomin * price row ≤ 100000 * highest
   unfolding price
   output-small = mul-le-mul (r .ecomin) (offer-small (kindOf (row .kind)) (row .price) (r .price))
@@ -50,7 +51,7 @@ module _ (h : ℕ) (schedule row : ScheduleRow) where
   unfolding share inItsRun
   share-other other = simp (ne-eqb _ _ other)
 
-share-small : (h : ℕ) (schedule row : ScheduleRow) → InRange row → share h schedule row ≤ mostHour
+share-small : (h : ℕ) (schedule row : ScheduleRow) → PermittedSchedule row → share h schedule row ≤ mostHour
 unfolding share
 share-small h schedule row r = go (inItsRun h schedule row)
   where
@@ -59,7 +60,7 @@ share-small h schedule row r = go (inItsRun h schedule row)
     go false = omega arith
 
 run-small :
-    (h : ℕ) (schedule : ScheduleRow) (rows : List ScheduleRow) → ((row : ScheduleRow) → Among row rows → InRange row) →
+    (h : ℕ) (schedule : ScheduleRow) (rows : List ScheduleRow) → ((row : ScheduleRow) → Among row rows → PermittedSchedule row) →
     runCost h schedule rows ≤ length rows * mostHour
 unfolding runCost
 run-small h schedule [] r = omega arith

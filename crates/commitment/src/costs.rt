@@ -5,7 +5,7 @@ ghost use Prim.Native.Nat.{_≤_, _<_};
 ghost use Rattle.tables.specs.Hours.{lastHour, runEnd, inRun};
 ghost use Rattle.tables.specs.Rows.{scheduleRows};
 ghost use Rattle.commitment.specs.Ranges.{rowAt, RowAt, UnitRows};
-ghost use Rattle.commitment.specs.Cost.{price as Cost·price, hourCost, share as Cost·share, runCost, cost as Cost·cost};
+ghost use Rattle.choice.specs.Cost.{price as Cost·price, hourCost, share as Cost·share, runCost, cost as Cost·cost};
 use crate::rows::ECOMIN;
 use crate::rows::HOUR;
 use crate::rows::MINRUN;
@@ -15,7 +15,7 @@ use crate::rows::SCHEDULE;
 use crate::rows::STARTUP;
 use crate::rows::cell;
 use crate::rows::kind;
-use market::capped;
+use offers::capped;
 use tables::Kind;
 
 // The last hour of the day.

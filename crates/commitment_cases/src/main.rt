@@ -5,9 +5,9 @@ mod units;
 ghost use mathlib.Core.Path.{_≡_};
 ghost use mathlib.Core.Bool.{true};
 ghost use Rattle.commitment_cases.specs.Fitting.{fit};
-use commitment::Choice;
-use commitment::Chosen;
-use commitment::DayKind;
+use choice::Choice;
+use choice::Chosen;
+use choice::DayKind;
 use libc::STDOUT_FILENO;
 use tables::Kind;
 

@@ -13,17 +13,17 @@ use Rattle.base.proofs.Tests.{false-true}
 use Rattle.tables.specs.Rows.{ScheduleRow, scheduleRows, kindOf}
 use Rattle.tables.specs.Table.{M}
 use Rattle.tables.specs.declared.files.Kind.the-variants.{M as KindM, C as KindC}
-use Rattle.schedules.specs.Gathered.{Gathered}
+use Rattle.gathering.specs.Gathered.{Gathered}
 use Rattle.schedules.specs.Schedules.{own}
-use Rattle.commitment.specs.Choosing.{choice}
+use Rattle.choice.specs.Choosing.{choice}
 use Rattle.commitment.specs.Ranges.{UnitRows}
-use Rattle.commitment.specs.Schedules.{kindIn, onCost, hasAny, schedules}
-use Rattle.commitment.specs.declared.choosing.Choice.{Choice}
-use Rattle.commitment.specs.declared.choosing.Chosen.{Chosen}
-use Rattle.commitment.specs.declared.choosing.Chosen.the-variants.{Schedule, Nothing}
-use Rattle.commitment.specs.declared.choosing.DayKind.{DayKind}
-use Rattle.commitment.specs.declared.choosing.DayKind.the-variants.{OnC}
-use Rattle.commitment.specs.declared.choosing.Kinds.the-variants.{OnlyC}
+use Rattle.choice.specs.Schedules.{kindIn, onCost, hasAny, schedules}
+use Rattle.choice.specs.declared.choosing.Choice.{Choice}
+use Rattle.choice.specs.declared.choosing.Chosen.{Chosen}
+use Rattle.choice.specs.declared.choosing.Chosen.the-variants.{Schedule, Nothing}
+use Rattle.choice.specs.declared.kinds.DayKind.{DayKind}
+use Rattle.choice.specs.declared.kinds.DayKind.the-variants.{OnC}
+use Rattle.choice.specs.declared.kinds.Kinds.the-variants.{OnlyC}
 use Rattle.judge.specs.Decision.{noChoice, chosenOr}
 use Rattle.decision.specs.Deciding.{kindAt, lacksCostBy, rowFrom, rowCells, UnitDecided}
 use Rattle.decision.specs.declared.testing.UnitTest.{UnitTest}

@@ -13,8 +13,8 @@ use Rattle.tables.specs.Table.{columnAt, allColumns, constraintColumns, supplyC
 use Rattle.tables.proofs.RowViews.{supply-length}
 use Rattle.market.specs.Clearing.{needOf, short, clearing, clearingRow, eligibleSupply}
 use Rattle.market.specs.Parties.{parties, amountOf, amounts}
-use Rattle.market.specs.Ranges.{SupplyCells, cellsRow, mostRelief}
-use Rattle.market.proofs.CellLaws.{row-at}
+use Rattle.offers.specs.Ranges.{SupplyCells, cellsRow, mostRelief}
+use Rattle.offers.proofs.CellLaws.{row-at}
 use Rattle.market.proofs.ClearingLaws.{clearing-clears}
 use Rattle.judge.specs.Decision.{need, untested, cleared}
 use Rattle.decision.specs.Standing.{MarketCells, standing, Stands}

@@ -9,10 +9,10 @@ use Rattle.tables.specs.Rows.{ConstraintRow, SupplyRow, constraintRow, supplyRo
 use Rattle.tables.proofs.RowViews.{supply-length}
 use Rattle.market.specs.Clearing.{needOf, clearing}
 use Rattle.market.specs.Parties.{party, parties, amountOf, amounts}
-use Rattle.market.proofs.RangeLaws.{amounts-limited}
+use Rattle.market.proofs.AmountLaws.{amounts-limited}
 use Rattle.pivotal.specs.Tally.{Limited}
 use Rattle.pivotal.specs.Test.{left, pivotal}
-use Rattle.commitment.specs.Exposure.{exposed}
+use Rattle.choice.specs.Exposure.{exposed}
 use Rattle.judge.specs.Decision.{
   need,
   unitRow,

@@ -14,8 +14,8 @@ use Rattle.base.proofs.Finds.{find-here, find-later}
 use Rattle.base.proofs.Lists.{drop-next, drop-end}
 use Rattle.base.proofs.Tests.{false-true, lt-or-ge, either}
 use Rattle.tables.specs.Rows.{SupplyRow, supplyRows}
-use Rattle.market.specs.Ranges.{cellsRow}
-use Rattle.market.proofs.CellLaws.{rows-next, rows-end}
+use Rattle.offers.specs.Ranges.{cellsRow}
+use Rattle.offers.proofs.CellLaws.{rows-next, rows-end}
 use Rattle.judge.specs.Decision.{ofUnit, unitRow, placeOf}
 use Rattle.decision.specs.Units.{UnitFound, anyOf}
 

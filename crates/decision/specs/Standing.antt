@@ -8,7 +8,7 @@ use Rattle.tables.specs.Ranges.{PermittedConstraint}
 use Rattle.tables.specs.Rows.{ConstraintRow, SupplyRow, constraintRow, supplyRows}
 use Rattle.market.specs.Clearing.{needOf, clearing}
 use Rattle.market.specs.Parties.{parties, amounts}
-use Rattle.market.specs.Ranges.{SupplyCells}
+use Rattle.offers.specs.Ranges.{SupplyCells}
 use Rattle.pivotal.specs.Test.{mostAmounts}
 use Rattle.judge.specs.Decision.{need, untested, cleared}
 use Rattle.decision.specs.declared.standing.Standing.{Standing}

@@ -6,9 +6,9 @@ use mathlib.Core.List.{List}
 use lib.ListN.{drop}
 use Rattle.base.specs.Search.{any}
 use Rattle.tables.specs.Rows.{SupplyRow, supplyRows}
-use Rattle.market.specs.Ranges.{RowCells, cellsRow}
-use Rattle.market.specs.Relevant.{relevant}
-use Rattle.market.specs.Supply.{eligible}
+use Rattle.offers.specs.Ranges.{RowCells, cellsRow}
+use Rattle.offers.specs.Relevant.{relevant}
+use Rattle.offers.specs.Supply.{eligible}
 use Rattle.judge.specs.Decision.{ofUnit, unitRow}
 use Rattle.decision.specs.declared.units.Wanted.{Wanted}
 use Rattle.decision.specs.declared.units.Wanted.the-variants.{Eligible, Relevant}

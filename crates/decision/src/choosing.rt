@@ -1,15 +1,15 @@
 // A unit's choice, from its own schedule rows and the cell of the day's kind for it.
 ghost use mathlib.Core.Path.{_≡_};
 ghost use Rattle.tables.specs.Rows.{scheduleRows};
-ghost use Rattle.commitment.specs.Choosing.{choice};
+ghost use Rattle.choice.specs.Choosing.{choice};
 ghost use Rattle.commitment.specs.Ranges.{UnitRows};
-ghost use Rattle.commitment.specs.Schedules.{kindIn};
+ghost use Rattle.choice.specs.Schedules.{kindIn};
 ghost use Rattle.judge.specs.Decision.{chosenOr};
 ghost use Rattle.decision.specs.Deciding.{kindAt, lacksCostBy};
-use commitment::Choice;
-use commitment::Chosen;
-use commitment::DayKind;
-use commitment::Kinds;
+use choice::Choice;
+use choice::Chosen;
+use choice::DayKind;
+use choice::Kinds;
 use commitment::choose;
 use commitment::has_any;
 use tables::Kind;

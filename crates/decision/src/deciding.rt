@@ -17,9 +17,9 @@ use crate::standing::Standing;
 use crate::standing::stand;
 use crate::testing::UnitTest;
 use crate::testing::test_unit;
-use commitment::Choice;
+use choice::Choice;
+use gathering::gather;
 use links::UNIT_LINKS;
-use schedules::gather;
 use schedules::link_units;
 use tables::Kind;
 

@@ -16,7 +16,7 @@ use crate::units::place_of;
 use crate::units::row_of;
 use market::need_of;
 use market::party;
-use market::supplier;
+use offers::supplier;
 use pivotal::left;
 use pivotal::pivotal;
 

@@ -3,11 +3,11 @@ ghost use mathlib.Core.Path.{_≡_};
 ghost use mathlib.Core.Bool.{true, _&&_};
 ghost use Rattle.base.specs.Search.{any};
 ghost use Rattle.tables.specs.Rows.{supplyRows};
-ghost use Rattle.market.specs.Ranges.{RowCells, SupplyCells, cellsRow};
+ghost use Rattle.offers.specs.Ranges.{RowCells, SupplyCells, cellsRow};
 ghost use Rattle.judge.specs.Decision.{ofUnit, placeOf};
 ghost use Rattle.decision.specs.Units.{UnitFound, anyOf, wantedRow, WantedCells};
-use market::is_eligible;
-use market::is_relevant;
+use offers::is_eligible;
+use offers::is_relevant;
 
 // The cells of a supply row, of which the unit's is the first.
 const WIDTH: usize = 5;

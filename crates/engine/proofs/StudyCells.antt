@@ -37,9 +37,7 @@ use Rattle.decision.specs.Standing.{MarketCells}
 use Rattle.decision.specs.declared.deciding.Decided.{Decided}
 use Rattle.decision.specs.declared.deciding.Decided.the-variants.{All as AllDecided, Costless}
 use Rattle.decision.proofs.DecidedRows.{kindCells, costless-units, rows-units}
-use Rattle.answer.proofs.RunCosts.{in-range}
 use Rattle.answer.proofs.StudyLetters.{decided-lettered}
-use Rattle.answer.proofs.StudyLongest.{permitted}
 use Rattle.judge.specs.Answer.{AnswerRow, answerRows}
 use Rattle.judge.specs.Day.{RunningUnit, kindRunning}
 use Rattle.judge.specs.Decision.{ofUnit, decidedRow, decided, costless}
@@ -110,7 +108,7 @@ module _
               record {
                 inside = omega (arith, keeps .supply-few);
                 few = keeps .supply-few;
-                permitted = λ r m. permitted (all-mem (keeps .supply-permitted) (rw rows at m));
+                permitted = λ r m. all-mem (keeps .supply-permitted) (rw rows at m);
               };
           few-parties = rw rows (omega (arith, parties-count (supplyOf s) (keeps .supply-permitted), keeps .suppliers-few));
         }
@@ -120,7 +118,7 @@ module _
         record {
           few = keeps .schedules-few;
           room = omega (arith, keeps .schedules-few);
-          ranged = λ r m. in-range (all-mem (keeps .schedules-permitted) (rw (cells .rows-kept .schedules-kept) at m));
+          ranged = λ r m. all-mem (keeps .schedules-permitted) (rw (cells .rows-kept .schedules-kept) at m);
         }
 
     pub units-of : 65 ≤ length us → UnitsOf (length (units (supplyOf s))) (supplyRows n supply) us

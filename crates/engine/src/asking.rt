@@ -4,7 +4,7 @@ ghost use mathlib.Core.Path.{_≡_};
 ghost use mathlib.Core.Bool.{true};
 ghost use Prim.Native.Nat.{_≤_};
 ghost use lib.ListN.{length, take};
-ghost use Rattle.commitment.specs.Schedules.{kindIn};
+ghost use Rattle.choice.specs.Schedules.{kindIn};
 ghost use Rattle.judge.specs.Day.{dayFormed, earlier, kindRunning, wouldRun};
 ghost use Rattle.engine.specs.View.{viewOf};
 ghost use Rattle.engine.specs.Asking.{KindsLaid, newcomers};
@@ -13,7 +13,7 @@ use crate::day::Day;
 use crate::day::LastHour;
 use crate::kinds::C;
 use crate::kinds::M;
-use commitment::DayKind;
+use choice::DayKind;
 use tables::Kind;
 
 // The cell of a unit that isn't running.

@@ -18,10 +18,9 @@ use Rattle.tables.specs.declared.files.Reading.the-variants.{Rows as RowsRead, 
 use Rattle.tables.specs.declared.files.Refusal.{Refusal}
 use Rattle.tables.proofs.Accepted.{accepted}
 use Rattle.supply.specs.Checks.{SupplyChecked}
-use Rattle.schedules.specs.Checks.{InHoursOf, schedulesChecked}
+use Rattle.schedules.specs.Checks.{InRanges, schedulesChecked}
 use Rattle.filing.specs.Filed.{ConstraintKept, SupplyFiled, SchedulesFiled, RowsFiled, FilesFiled, supplyRefusal, schedulesRefusal, rowsRefusal, filed, filedUnless, supplyUnless, schedulesUnless, supplyAnswer, schedulesAnswer, rowsAnswer}
 use Rattle.filing.specs.Filing.{constraintOf, supplyOf, schedulesOf, filingRefusal}
-use Rattle.schedules.specs.Ranges.{InHours}
 use Rattle.supply.specs.Supply.{mostUnits, units, crowded}
 use Rattle.supply.specs.declared.checks.SupplyCheck.{SupplyCheck}
 use Rattle.schedules.specs.declared.checks.ScheduleCheck.{ScheduleCheck}
@@ -92,10 +91,6 @@ module _ (s old new : List ℕ) (r : Reading) (read : FileRead Supply s old new 
         }
 
 -- schedules
-in-hours : {rs : List ScheduleRow} → All PermittedSchedule rs → All InHours rs
-in-hours all-none = all-none
-in-hours (all-more p a) = all-more (record { hour = p .hour; least = p .some-minrun; most = p .minrun }) (in-hours a)
-
 module _ (h old new : List ℕ) (r : Reading) (read : FileRead Schedules h old new r) where
   pub schedules-unread : (hour : ℕ) (us : List ℕ) {x : Refusal} → r ≡ NotRead x → SchedulesFiled hour us h new (NotRead x)
   unfolding schedulesRefusal firstOf
@@ -120,9 +115,9 @@ module _ (h old new : List ℕ) (r : Reading) (read : FileRead Schedules h old n
         let count = was-read Schedules h (read .answers) e .1 in
         (omega (arith, count, few), omega (arith, schedules-room, count, few))
 
-    pub schedules-in-hours : (hour : ℕ) → hour ≤ lastHour → InHoursOf hour (scheduleRows n new)
-    schedules-in-hours hour m =
-        record { hour = m; ranges = rw schedule-rows-read (in-hours (schedules-kept h schedules-were-read)) }
+    pub schedules-in-ranges : (hour : ℕ) → hour ≤ lastHour → InRanges hour (scheduleRows n new)
+    schedules-in-ranges hour m =
+        record { hour = m; ranges = rw schedule-rows-read (schedules-kept h schedules-were-read) }
 
     pub schedules-filed :
         (hour : ℕ) (us : List ℕ) (q : ScheduleCheck) (a : Reading) → q ≡ schedulesChecked hour us (scheduleRows n new) → a ≡ schedulesAnswer n q →

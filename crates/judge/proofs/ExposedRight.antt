@@ -12,9 +12,9 @@ use Rattle.base.proofs.Elements.{any-mem}
 use Rattle.base.proofs.Tests.{false-true, and-fst, and-snd}
 use Rattle.tables.specs.Rows.{ConstraintRow, SupplyRow}
 use Rattle.market.specs.Parties.{party}
-use Rattle.market.specs.Relevant.{relevant}
-use Rattle.market.specs.Supply.{eligible}
-use Rattle.commitment.specs.Exposure.{Verdict, U, P, F, exposed}
+use Rattle.offers.specs.Relevant.{relevant}
+use Rattle.offers.specs.Supply.{eligible}
+use Rattle.choice.specs.Exposure.{Verdict, U, P, F, exposed}
 use Rattle.judge.specs.Answer.{verdictLetter}
 use Rattle.judge.specs.Decision.{need, cleared, ofUnit, unitRow, verdictOf, hasRelevant, hasEligible, exposedUnit}
 use Rattle.judge.specs.Right.{RowOf, RelevantRow, EligibleRow, Exposed, failed, untested}

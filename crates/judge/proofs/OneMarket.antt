@@ -10,11 +10,11 @@ use borrow.Author.Tests.{le-leb, leb-true}
 use Rattle.base.proofs.Tests.{and-fst, and-snd}
 use Rattle.tables.specs.Rows.{SupplyRow}
 use Rattle.market.specs.Clearing.{Clears}
-use Rattle.market.specs.Relevant.{relevant}
+use Rattle.offers.specs.Relevant.{relevant}
 use Rattle.market.specs.Removals.{relevantWithout, remaining}
-use Rattle.market.specs.Supply.{absDfax, eligible, offer, costBeside, atMost}
+use Rattle.offers.specs.Supply.{absDfax, eligible, offer, costBeside, atMost}
 use Rattle.market.proofs.ClearingLaws.{clears-once}
-use Rattle.market.proofs.SupplyLaws.{supply-same}
+use Rattle.offers.proofs.SupplyLaws.{supply-same}
 use Rattle.judge.proofs.SearchLaws.{same-test}
 
 -- o / z at most three halves of a / x, which is at most b / y

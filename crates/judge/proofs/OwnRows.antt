@@ -9,17 +9,16 @@ use native.Mathlib.Omega.{arith}
 use lib.Dec.{eqb}
 use borrow.Author.Tests.{eq-eqb, eqb-true, not-false}
 use Rattle.base.specs.Search.{any, All}
-use Rattle.base.proofs.Elements.{all-mem, any-mem, none-mem}
+use Rattle.base.proofs.Elements.{all-mem, any-mem, none-mem, mem-those, those-mem}
 use Rattle.base.proofs.Tests.{false-true, and-fst, and-snd}
 use Rattle.tables.specs.Hours.{lastHour, runEnd}
 use Rattle.tables.specs.Ranges.{PermittedSchedule}
 use Rattle.tables.specs.Rows.{ScheduleRow}
 use Rattle.schedules.specs.Schedules.{sameSchedule, scheduleOdds, schedulesAtOdds, own, unscheduled, hasHours, hasRun, lacking}
 use Rattle.schedules.proofs.OddsLaws.{odds-hours}
-use Rattle.commitment.specs.Right.{OneRowEach}
-use Rattle.commitment.specs.Schedules.{atHour, schedules}
-use Rattle.commitment.proofs.PassingLaws.{passing-among, among-passing}
-use Rattle.judge.proofs.SearchLaws.{none-found, those-passing, Agree, same, behind, before, agree}
+use Rattle.choice.specs.Right.{OneRowEach}
+use Rattle.choice.specs.Schedules.{atHour, schedules}
+use Rattle.judge.proofs.SearchLaws.{none-found, Agree, same, behind, before, agree}
 
 -- a row among the unit's own, and one of them for the study hour
 module _ (u : ℕ) (rows : List ScheduleRow) where
@@ -29,23 +28,23 @@ module _ (u : ℕ) (rows : List ScheduleRow) where
   own-row : {r : ScheduleRow} → Among r (own u rows) → Among r rows × (r .unit ≡ u)
   unfolding own
   own-row {r} m =
-      let (n, t) = among-passing its rows (rw (those-passing its rows) at m) in
+      let (n, t) = those-mem its rows m in
       (n, eqb-true (r .unit) u t)
 
   row-own : {r : ScheduleRow} → Among r rows → r .unit ≡ u → Among r (own u rows)
   unfolding own
-  row-own {r} m e = rw (those-passing its rows) (passing-among its m (eq-eqb (r .unit) u e))
+  row-own {r} m e = mem-those its m (eq-eqb (r .unit) u e)
 
 module _ (h : ℕ) (rows : List ScheduleRow) where
   scheduled-row : {r : ScheduleRow} → Among r (schedules h rows) → Among r rows × (r .hour ≡ h)
   unfolding schedules atHour
   scheduled-row {r} m =
-      let (n, t) = among-passing (atHour h) rows m in
+      let (n, t) = those-mem (atHour h) rows m in
       (n, eqb-true (r .hour) h t)
 
   row-scheduled : {r : ScheduleRow} → Among r rows → r .hour ≡ h → Among r (schedules h rows)
   unfolding schedules atHour
-  row-scheduled {r} m e = passing-among (atHour h) m (eq-eqb (r .hour) h e)
+  row-scheduled {r} m e = mem-those (atHour h) m (eq-eqb (r .hour) h e)
 
 module _ (rows : List ScheduleRow) (agrees : schedulesAtOdds rows ≡ none) where
   -- two rows of one schedule for one hour are the same row

@@ -12,13 +12,13 @@ use Rattle.tables.specs.declared.files.Kind.{Kind}
 use Rattle.schedules.specs.Schedules.{own}
 use Rattle.supply.specs.Supply.{units}
 use Rattle.market.specs.Parties.{party}
-use Rattle.commitment.specs.Right.{RightChoice}
-use Rattle.commitment.specs.Schedules.{schedules, onCost, hasAny}
-use Rattle.commitment.specs.declared.choosing.Choice.{Choice}
-use Rattle.commitment.specs.declared.choosing.Chosen.the-variants.{Schedule}
-use Rattle.commitment.specs.declared.choosing.Kinds.the-variants.{OnlyC}
-use Rattle.commitment.proofs.ChoiceRight.{choice-right, choice-exists}
-use Rattle.commitment.proofs.SomeEligible.{some-eligible}
+use Rattle.choice.specs.Right.{RightChoice}
+use Rattle.choice.specs.Schedules.{schedules, onCost, hasAny}
+use Rattle.choice.specs.declared.choosing.Choice.{Choice}
+use Rattle.choice.specs.declared.choosing.Chosen.the-variants.{Schedule}
+use Rattle.choice.specs.declared.kinds.Kinds.the-variants.{OnlyC}
+use Rattle.choice.proofs.ChoiceRight.{choice-right, choice-exists}
+use Rattle.choice.proofs.SomeEligible.{some-eligible}
 use Rattle.judge.specs.Answer.{AnswerRow, verdictLetter}
 use Rattle.judge.specs.Day.{RunningUnit, kindRunning}
 use Rattle.judge.specs.Decision.{unitRow, verdictOf, exposedUnit, chosenOr, choiceOf, decidedRow, lacksCost, costless}

@@ -9,10 +9,9 @@ use native.Mathlib.Omega.{arith}
 use lib.Dec.{eqb}
 use borrow.Author.Tests.{eq-eqb}
 use Rattle.base.specs.Rising.{among}
-use Rattle.base.specs.Search.{any, find, those, firstAtOdds}
+use Rattle.base.specs.Search.{any, find, firstAtOdds}
 use Rattle.base.proofs.Elements.{none-mem}
 use Rattle.base.proofs.Tests.{false-true}
-use Rattle.commitment.specs.Schedules.{passing}
 
 -- two tests that pass together are the same
 pub same-test : (a b : Bool) → (a ≡ true → b ≡ true) → (b ≡ true → a ≡ true) → a ≡ b
@@ -65,12 +64,6 @@ module _ {A : Type 0} (p : A → Bool) where
       go : (t : Bool) → cond t (some y) (find p ys) ≡ none → find p ys ≡ none
       go true e = some-none e
       go false e = e
-
-  -- the elements that pass, by either name
-  pub those-passing : (xs : List A) → those p xs ≡ passing p xs
-  unfolding those passing
-  those-passing [] = refl
-  those-passing (x ∷ xs) = rw (those-passing xs)
 
 -- elements of which none is at odds with an earlier one
 module _ {A : Type 0} (odds : A → A → Bool) where

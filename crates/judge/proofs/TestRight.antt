@@ -19,7 +19,7 @@ use Rattle.market.specs.Removals.{PartyOf, Removes, remaining}
 use Rattle.market.proofs.ClearingLaws.{clearing-clears}
 use Rattle.market.proofs.LeastOverRows.{party-place, least-over-rows, attained-over-rows}
 use Rattle.pivotal.specs.Test.{pivotal}
-use Rattle.commitment.specs.Exposure.{Verdict, U, P, F}
+use Rattle.choice.specs.Exposure.{Verdict, U, P, F}
 use Rattle.judge.specs.Answer.{verdictLetter}
 use Rattle.judge.specs.Decision.{placeOf, need, untested, cleared, leftOf, verdictOf, leftShown}
 use Rattle.judge.specs.Right.{Clearing, Removal, RightTest}

@@ -10,7 +10,7 @@ use Rattle.base.proofs.Tests.{and-fst, and-snd}
 use Rattle.tables.specs.Rows.{ConstraintRow, SupplyRow}
 use Rattle.supply.specs.Supply.{units, supplyOdds, supplyAtOdds}
 use Rattle.supply.proofs.UnitLaws.{among-units}
-use Rattle.market.specs.Clearing.{noRow}
+use Rattle.offers.specs.Supply.{noRow}
 use Rattle.judge.specs.Decision.{ofUnit, unitRow}
 use Rattle.judge.specs.Right.{RowOf}
 use Rattle.judge.proofs.SearchLaws.{among-true, found, Agree, same, behind, before, agree}

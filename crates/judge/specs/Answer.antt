@@ -5,7 +5,7 @@ use Prim.Native.Nat.{ℕ, _*_}
 use mathlib.Core.List.{List, [], _∷_, _++_, map}
 use lib.ListN.{getD}
 use Rattle.base.specs.Text.{bytes}
-use Rattle.commitment.specs.Exposure.{Verdict, U, P, F}
+use Rattle.choice.specs.Exposure.{Verdict, U, P, F}
 use Rattle.numeral.specs.Numeral.{digits}
 use Rattle.tables.specs.Rows.{rowsOf}
 

@@ -10,18 +10,19 @@ use Rattle.tables.specs.Rows.{ConstraintRow, SupplyRow, ScheduleRow, letterOf}
 use Rattle.tables.specs.declared.files.Kind.the-variants.{C}
 use Rattle.supply.specs.Supply.{units}
 use Rattle.schedules.specs.Schedules.{own}
-use Rattle.market.specs.Clearing.{needOf, short, clearingRow, noRow}
+use Rattle.market.specs.Clearing.{needOf, short, clearingRow}
+use Rattle.offers.specs.Supply.{noRow}
 use Rattle.market.specs.Parties.{party, parties, amounts}
-use Rattle.market.specs.Relevant.{relevant}
-use Rattle.market.specs.Supply.{eligible}
+use Rattle.offers.specs.Relevant.{relevant}
+use Rattle.offers.specs.Supply.{eligible}
 use Rattle.pivotal.specs.Test.{left, pivotal}
-use Rattle.commitment.specs.Choosing.{choice}
-use Rattle.commitment.specs.Exposure.{Verdict, U, P, F, exposed}
-use Rattle.commitment.specs.Schedules.{schedules, onCost, hasAny}
-use Rattle.commitment.specs.declared.choosing.Choice.{Choice}
-use Rattle.commitment.specs.declared.choosing.Chosen.{Chosen}
-use Rattle.commitment.specs.declared.choosing.Chosen.the-variants.{Schedule, Nothing}
-use Rattle.commitment.specs.declared.choosing.Kinds.the-variants.{OnlyC}
+use Rattle.choice.specs.Choosing.{choice}
+use Rattle.choice.specs.Exposure.{Verdict, U, P, F, exposed}
+use Rattle.choice.specs.Schedules.{schedules, onCost, hasAny}
+use Rattle.choice.specs.declared.choosing.Choice.{Choice}
+use Rattle.choice.specs.declared.choosing.Chosen.{Chosen}
+use Rattle.choice.specs.declared.choosing.Chosen.the-variants.{Schedule, Nothing}
+use Rattle.choice.specs.declared.kinds.Kinds.the-variants.{OnlyC}
 use Rattle.judge.specs.Answer.{AnswerRow, verdictLetter}
 use Rattle.judge.specs.Day.{RunningUnit, kindRunning}
 

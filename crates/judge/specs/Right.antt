@@ -15,11 +15,11 @@ use Rattle.filing.specs.Filing.{constraintOf, supplyOf, schedulesOf}
 use Rattle.schedules.specs.Schedules.{own}
 use Rattle.market.specs.Clearing.{Clears, needOf, eligibleSupply}
 use Rattle.market.specs.Parties.{party}
-use Rattle.market.specs.Relevant.{relevant}
+use Rattle.offers.specs.Relevant.{relevant}
 use Rattle.market.specs.Removals.{Removes, remaining}
-use Rattle.market.specs.Supply.{eligible}
-use Rattle.commitment.specs.Exposure.{Verdict, U, P, F}
-use Rattle.commitment.specs.Right.{RightChoice}
+use Rattle.offers.specs.Supply.{eligible}
+use Rattle.choice.specs.Exposure.{Verdict, U, P, F}
+use Rattle.choice.specs.Right.{RightChoice}
 use Rattle.judge.specs.Answer.{AnswerRow, verdictLetter, answerHeader, COMMA, CRLF}
 use Rattle.judge.specs.Day.{RunningUnit, DayView, kindRunning}
 

@@ -6,12 +6,12 @@ use mathlib.Core.Bool.{Bool, true, false}
 use mathlib.Core.List.{List, [], _∷_, map}
 use mathlib.Core.Option.{none}
 use Rattle.base.specs.Rising.{rising·all}
+use Rattle.base.specs.Search.{those}
 use Rattle.base.specs.Text.{bytes}
-use Rattle.commitment.specs.Choosing.{shown, better, kept, keptAll, candidates, choice}
-use Rattle.commitment.specs.Cost.{offerPrice, price, hourCost, runningCost, inItsRun, share, runCost, startingCost, cost}
-use Rattle.commitment.specs.Exposure.{exposed}
-use Rattle.commitment.specs.Schedules.{
-  passing,
+use Rattle.choice.specs.Choosing.{shown, better, kept, keptAll, candidates, choice}
+use Rattle.choice.specs.Cost.{offerPrice, price, hourCost, runningCost, inItsRun, share, runCost, startingCost, cost}
+use Rattle.choice.specs.Exposure.{exposed}
+use Rattle.choice.specs.Schedules.{
   atHour,
   schedules,
   ofKinds,
@@ -26,21 +26,12 @@ use Rattle.judge.specs.Answer.{answer·all}
 use Rattle.judge.specs.Day.{freshDay, day·all}
 use Rattle.judge.specs.Decision.{decision·all}
 use Rattle.judge.specs.Study.{decisionRefusal, answerFile, study·all}
-use Rattle.market.specs.Clearing.{
-  eligibleSupply,
-  needOf,
-  short,
-  eligibleUpTo,
-  eligibleBelow,
-  clears,
-  clearing,
-  rowAt,
-  clearingRow,
-}
-use Rattle.market.specs.Offer.{capped}
+use Rattle.market.specs.Clearing.{eligibleSupply, needOf, short, eligibleUpTo, eligibleBelow, clears, clearing, clearingRow}
+use Rattle.offers.specs.Supply.{rowAt}
+use Rattle.offers.specs.Offer.{capped}
 use Rattle.market.specs.Parties.{party, met, metAll, parties, relevantOf, amountOf, amounts}
-use Rattle.market.specs.Relevant.{relevant}
-use Rattle.market.specs.Supply.{absDfax, eligible, supply, supplyOf, offer, costBeside, atMost, below}
+use Rattle.offers.specs.Relevant.{relevant}
+use Rattle.offers.specs.Supply.{absDfax, eligible, supply, supplyOf, offer, costBeside, atMost, below}
 use Rattle.pivotal.specs.Suppliers.{among}
 use Rattle.tables.proofs.Starred.{constraintFile, supplyFile, schedulesFile, starred·all}
 use Rattle.tables.specs.Hours.{inRun}
@@ -104,7 +95,7 @@ unfolding relevant·all supply supplyOf atMost below eligibleSupply needOf short
 market·all = tt
 
 unfoldable choice·all : Unit {0}
-unfolding inRun offerPrice price hourCost runningCost inItsRun share runCost startingCost cost kindOf passing atHour schedules ofKinds hasAny eligibleKinds eligibleSchedule exposed shown better kept keptAll candidates choice
+unfolding inRun offerPrice price hourCost runningCost inItsRun share runCost startingCost cost kindOf those atHour schedules ofKinds hasAny eligibleKinds eligibleSchedule exposed shown better kept keptAll candidates choice
 choice·all = tt
 
 unfoldable engine·all : Unit {0}

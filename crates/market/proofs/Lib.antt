@@ -1,4 +1,4 @@
-pub mod CellLaws
+pub mod AmountLaws
 pub mod ClearingLaws
 pub mod DistinctLaws
 pub mod LeastOverRows
@@ -6,6 +6,4 @@ pub mod ListingLaws
 pub mod NarrowingLaws
 pub mod PartLaws
 pub mod PartyLaws
-pub mod RangeLaws
-pub mod SupplyLaws
 pub mod TryLaws

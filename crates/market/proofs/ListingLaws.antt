@@ -13,9 +13,9 @@ use Rattle.base.proofs.Writers.{wrote-front, wrote-over}
 use Rattle.base.proofs.Lists.{drop-next, drop-end}
 use Rattle.tables.specs.Rows.{SupplyRow, supplyRows}
 use Rattle.pivotal.specs.Suppliers.{among}
-use Rattle.market.specs.Ranges.{cellsRow}
+use Rattle.offers.specs.Ranges.{cellsRow}
 use Rattle.market.specs.Parties.{party, met, metAll, parties}
-use Rattle.market.proofs.CellLaws.{rows-next, rows-end}
+use Rattle.offers.proofs.CellLaws.{rows-next, rows-end}
 
 -- the search for k among the first `count` numbers of a list, from a place on
 module _ (k : ℕ) (list : List ℕ) (count : ℕ) (fits : count ≤ length list) (i : ℕ) where

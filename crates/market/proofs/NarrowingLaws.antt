@@ -13,8 +13,9 @@ use Rattle.base.proofs.Members.{place-of}
 use Rattle.tables.specs.Rows.{SupplyRow, supplyRows}
 use Rattle.tables.proofs.RowViews.{supply-length}
 use Rattle.market.specs.declared.narrowing.Bounds.{Bounds}
-use Rattle.market.specs.Supply.{eligible, supply, supplyOf, costBeside, atMost, below}
-use Rattle.market.specs.Clearing.{eligibleUpTo, eligibleBelow, clears, noRow, rowAt}
+use Rattle.offers.specs.Supply.{eligible, supply, supplyOf, costBeside, atMost, below}
+use Rattle.market.specs.Clearing.{eligibleUpTo, eligibleBelow, clears}
+use Rattle.offers.specs.Supply.{noRow, rowAt}
 use Rattle.market.specs.Narrowing.{
   eligibleAt,
   counts,
@@ -25,8 +26,8 @@ use Rattle.market.specs.Narrowing.{
   Narrows,
   ClearingCost,
 }
-use Rattle.market.specs.Ranges.{cellsRow, SupplyCells}
-use Rattle.market.proofs.CellLaws.{row-at}
+use Rattle.offers.specs.Ranges.{cellsRow, SupplyCells}
+use Rattle.offers.proofs.CellLaws.{row-at}
 use Rattle.market.proofs.ClearingLaws.{
   up-to,
   up-to-eligible,
@@ -36,7 +37,7 @@ use Rattle.market.proofs.ClearingLaws.{
   below-strictly,
   dearer,
 }
-use Rattle.market.proofs.SupplyLaws.{
+use Rattle.offers.proofs.SupplyLaws.{
   supply-within,
   supply-mono,
   supply-none,

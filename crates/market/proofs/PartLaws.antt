@@ -6,10 +6,10 @@ use mathlib.Core.List.{List}
 use native.Mathlib.Omega.{arith}
 use lib.ListN.{drop}
 use Rattle.tables.specs.Rows.{SupplyRow, supplyRows}
-use Rattle.market.specs.Supply.{supply, supplyOf}
-use Rattle.market.specs.Ranges.{SupplyCells, cellsRow}
-use Rattle.market.proofs.RangeLaws.{mostSupply, part-small, supply-small}
-use Rattle.market.proofs.CellLaws.{rows-next, rows-end, row-cells}
+use Rattle.offers.specs.Supply.{supply, supplyOf}
+use Rattle.offers.specs.Ranges.{SupplyCells, cellsRow}
+use Rattle.offers.proofs.RangeLaws.{mostSupply, part-small, supply-small}
+use Rattle.offers.proofs.CellLaws.{rows-next, rows-end, row-cells}
 
 -- of n rows the first i have been added up, as far as they pass a test
 pub record Adding (n : ℕ) (cells : List ℕ) (p : SupplyRow → Bool) (i sum : ℕ) : Type 0 where

@@ -27,11 +27,11 @@ use Rattle.base.proofs.Tests.{false-true}
 use Rattle.tables.specs.Rows.{SupplyRow}
 use Rattle.pivotal.specs.Test.{total}
 use Rattle.pivotal.specs.Suppliers.{Absent, Distinct, among, staying}
-use Rattle.market.specs.Supply.{supply, supplyOf}
-use Rattle.market.specs.Relevant.{relevant}
+use Rattle.offers.specs.Supply.{supply, supplyOf}
+use Rattle.offers.specs.Relevant.{relevant}
 use Rattle.market.specs.Parties.{party, met, metAll, parties, relevantOf, amountOf}
 use Rattle.market.specs.Removals.{PartyOf, relevantWithout, remaining}
-use Rattle.market.proofs.SupplyLaws.{supply-adds, supply-same, supply-none}
+use Rattle.offers.proofs.SupplyLaws.{supply-adds, supply-same, supply-none}
 use Rattle.market.proofs.DistinctLaws.{
   among-member,
   among-absent,

@@ -13,8 +13,8 @@ use Rattle.tables.specs.Rows.{SupplyRow, supplyRows}
 use Rattle.tables.proofs.RowViews.{supply-length}
 use Rattle.market.specs.Clearing.{clears, clearing}
 use Rattle.market.specs.Narrowing.{eligibleAt, firstAt}
-use Rattle.market.specs.Ranges.{cellsRow}
-use Rattle.market.proofs.CellLaws.{rows-next, rows-end}
+use Rattle.offers.specs.Ranges.{cellsRow}
+use Rattle.offers.proofs.CellLaws.{rows-next, rows-end}
 
 -- of n rows the first i have been tried, and none of them passes
 pub record Trying (n : ℕ) (cells : List ℕ) (p : SupplyRow → Bool) (i : ℕ) : Type 0 where

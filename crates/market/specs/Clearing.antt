@@ -7,10 +7,10 @@ use mathlib.Core.Bool.{Bool, _&&_}
 use mathlib.Core.List.{List, List·Memᴰ}
 use mathlib.Core.Option.{Option·getD}
 use lib.Dec.{leb, ltb}
-use lib.ListN.{length, getD}
+use lib.ListN.{length}
 use Rattle.base.specs.Search.{first}
 use Rattle.tables.specs.Rows.{SupplyRow}
-use Rattle.market.specs.Supply.{absDfax, eligible, supplyOf, atMost, below}
+use Rattle.offers.specs.Supply.{absDfax, eligible, supplyOf, atMost, below, rowAt}
 
 -- "Eligible supply is the effective supply of the eligible rows, added up."
 unfoldable pub eligibleSupply : ℕ → List SupplyRow → ℕ
@@ -49,13 +49,6 @@ clears cutoff need rows q =
 -- the place of the first row in file order that clears, or the number of rows where none does
 unfoldable pub clearing : ℕ → ℕ → List SupplyRow → ℕ
 clearing cutoff need rows = Option·getD (first (clears cutoff need rows) 0 rows) (length rows)
-
-abbrev pub noRow : SupplyRow
-noRow = record { unit = 0; supplier = 0; mw = 0; cost = 0; dfax = 0 }
-
--- the row at a place, and past the end one that supplies nothing
-unfoldable pub rowAt : List SupplyRow → ℕ → SupplyRow
-rowAt rows i = getD rows i noRow
 
 unfoldable pub clearingRow : ℕ → ℕ → List SupplyRow → SupplyRow
 clearingRow cutoff need rows = rowAt rows (clearing cutoff need rows)

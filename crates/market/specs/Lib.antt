@@ -1,9 +1,5 @@
 pub mod Clearing
 pub mod Narrowing
-pub mod Offer
 pub mod Parties
 pub mod Parts
-pub mod Ranges
-pub mod Relevant
 pub mod Removals
-pub mod Supply

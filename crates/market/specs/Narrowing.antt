@@ -11,9 +11,9 @@ use lib.ListN.{length}
 use Rattle.base.specs.Search.{first}
 use Rattle.tables.specs.Rows.{SupplyRow, supplyRows}
 use Rattle.market.specs.declared.narrowing.Bounds.{Bounds}
-use Rattle.market.specs.Supply.{eligible, supply, supplyOf, costBeside, atMost, below}
+use Rattle.offers.specs.Supply.{eligible, supply, supplyOf, costBeside, atMost, below}
 use Rattle.market.specs.Clearing.{eligibleUpTo, clears}
-use Rattle.market.specs.Ranges.{cellsRow}
+use Rattle.offers.specs.Ranges.{cellsRow}
 
 -- eligible rows of the cost of the row q, and the place of the first of them
 unfoldable pub eligibleAt : ℕ → SupplyRow → SupplyRow → Bool

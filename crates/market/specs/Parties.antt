@@ -6,8 +6,8 @@ use mathlib.Core.List.{List, [], _∷_, _++_, map}
 use lib.Dec.{eqb}
 use Rattle.tables.specs.Rows.{SupplyRow}
 use Rattle.pivotal.specs.Suppliers.{among}
-use Rattle.market.specs.Supply.{supplyOf}
-use Rattle.market.specs.Relevant.{relevant}
+use Rattle.offers.specs.Supply.{supplyOf}
+use Rattle.offers.specs.Relevant.{relevant}
 
 -- the number under which a row's supply counts in the test: its supplier
 unfoldable pub party : SupplyRow → ℕ

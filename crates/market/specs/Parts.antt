@@ -5,10 +5,10 @@ use mathlib.Core.List.{List}
 use Rattle.tables.specs.Rows.{SupplyRow}
 use Rattle.market.specs.declared.parts.Part.{Part}
 use Rattle.market.specs.declared.parts.Part.the-variants.{Eligible, UpTo, RelevantOf}
-use Rattle.market.specs.Supply.{eligible}
+use Rattle.offers.specs.Supply.{eligible}
 use Rattle.market.specs.Clearing.{eligibleUpTo}
 use Rattle.market.specs.Parties.{relevantOf}
-use Rattle.market.specs.Ranges.{RowCells, cellsRow}
+use Rattle.offers.specs.Ranges.{RowCells, cellsRow}
 
 -- whether a row belongs to a part, which names another row by its place in the cells
 unfoldable pub inPart : List ℕ → ℕ → Part → SupplyRow → Bool

@@ -7,8 +7,8 @@ use mathlib.Core.Bool.{Bool, _&&_, not}
 use mathlib.Core.List.{List, [], _∷_, List·Memᴰ}
 use Rattle.tables.specs.Rows.{SupplyRow}
 use Rattle.pivotal.specs.Suppliers.{among}
-use Rattle.market.specs.Supply.{supplyOf}
-use Rattle.market.specs.Relevant.{relevant}
+use Rattle.offers.specs.Supply.{supplyOf}
+use Rattle.offers.specs.Relevant.{relevant}
 use Rattle.market.specs.Parties.{party}
 
 -- some row's supply counts for k

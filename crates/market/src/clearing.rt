@@ -2,14 +2,14 @@
 ghost use mathlib.Core.Path.{_≡_};
 ghost use Prim.Native.Nat.{_≤_, _<_};
 ghost use Rattle.tables.specs.Rows.{supplyRows};
-ghost use Rattle.market.specs.Ranges.{RowCells, SupplyCells, cellsRow, mostRelief};
+ghost use Rattle.offers.specs.Ranges.{RowCells, SupplyCells, cellsRow, mostRelief};
 ghost use Rattle.market.specs.Clearing.{eligibleSupply, needOf, clearing};
 ghost use Rattle.market.specs.Narrowing.{eligibleAt, firstAt};
 use crate::narrowing::clearing_cost;
 use crate::parts::Part;
 use crate::parts::supply_of;
-use crate::rows::cost_beside;
-use crate::rows::is_eligible;
+use offers::cost_beside;
+use offers::is_eligible;
 
 // A dfax of 1, in ten-thousandths.
 const WHOLE_DFAX: u64 = 10000;

@@ -2,13 +2,13 @@
 // and becomes one of them; any other costs two comparisons.
 ghost use mathlib.Core.Path.{_≡_};
 ghost use Prim.Native.Nat.{_<_};
-ghost use Rattle.market.specs.Ranges.{RowCells, SupplyCells, cellsRow};
+ghost use Rattle.offers.specs.Ranges.{RowCells, SupplyCells, cellsRow};
 ghost use Rattle.market.specs.Narrowing.{counts as Narrowing·counts, cheaper, between, Bounding, Narrows, ClearingCost};
 use crate::parts::Part;
 use crate::parts::supply_of;
-use crate::rows::cost_beside;
-use crate::rows::effective_supply;
-use crate::rows::is_eligible;
+use offers::cost_beside;
+use offers::effective_supply;
+use offers::is_eligible;
 
 // The most rows.
 const ROWS: usize = 256;

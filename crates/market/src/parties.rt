@@ -1,4 +1,4 @@
-// The parties of the supply rows, and the relevant supply of each.
+// The party of a supply row, the parties of the rows, and the relevant supply of each.
 ghost use mathlib.Core.Path.{_≡_};
 ghost use mathlib.Core.List.{_++_, map};
 ghost use Prim.Native.Nat.{_<_, _≤_};
@@ -6,11 +6,19 @@ ghost use lib.ListN.{length, take, drop};
 ghost use Rattle.base.specs.Writing.{Wrote};
 ghost use Rattle.tables.specs.Rows.{supplyRows};
 ghost use Rattle.pivotal.specs.Suppliers.{among};
-ghost use Rattle.market.specs.Ranges.{SupplyCells, cellsRow};
-ghost use Rattle.market.specs.Parties.{met, parties as Parties·parties, amountOf};
+ghost use Rattle.offers.specs.Ranges.{RowCells, SupplyCells, cellsRow};
+ghost use Rattle.market.specs.Parties.{party as Parties·party, met, parties as Parties·parties, amountOf};
 use crate::parts::Part;
 use crate::parts::supply_of;
-use crate::rows::party;
+use offers::supplier;
+
+// The number under which the row's supply counts in the test.
+pub fn party(cells: &[u64], row: usize) -> u64
+    requires { ⌜ RowCells (now cells) row ⌝ }
+    ensures { λ r. ⌜ r ≡ Parties·party (cellsRow (now (cells .entry)) row) ⌝ }
+{
+    supplier(cells, row)
+}
 
 // Writes the different parties of the first `n` rows, in the order in which they first appear, to
 // the start of `out`, which has room for them, and answers how many there are.

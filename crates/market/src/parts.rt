@@ -3,16 +3,16 @@
 ghost use mathlib.Core.Path.{_≡_};
 ghost use mathlib.Core.Bool.{cond};
 ghost use Rattle.tables.specs.Rows.{supplyRows};
-ghost use Rattle.market.specs.Ranges.{RowCells, SupplyCells, cellsRow};
-ghost use Rattle.market.specs.Supply.{supply, supplyOf};
+ghost use Rattle.offers.specs.Ranges.{RowCells, SupplyCells, cellsRow};
+ghost use Rattle.offers.specs.Supply.{supply, supplyOf};
 ghost use Rattle.market.specs.Clearing.{eligibleUpTo};
 ghost use Rattle.market.specs.Parties.{relevantOf};
 ghost use Rattle.market.specs.Parts.{PartCells, inPart};
-use crate::relevant::is_relevant;
-use crate::rows::cost_beside;
-use crate::rows::effective_supply;
-use crate::rows::is_eligible;
-use crate::rows::party;
+use crate::parties::party;
+use offers::cost_beside;
+use offers::effective_supply;
+use offers::is_eligible;
+use offers::is_relevant;
 
 // The eligible rows; those at or below the cost of the row at a place; and the relevant ones of a
 // party, where the row at a place clears.

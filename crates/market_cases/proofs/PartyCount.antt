@@ -8,7 +8,7 @@ use Rattle.tables.specs.Rows.{SupplyRow, supplyRows}
 use Rattle.tables.proofs.RowViews.{supply-length}
 use Rattle.pivotal.specs.Suppliers.{among}
 use Rattle.market.specs.Parties.{party, met, metAll, parties}
-use Rattle.market.specs.Ranges.{SupplyCells}
+use Rattle.offers.specs.Ranges.{SupplyCells}
 
 one-more : (ks : List ℕ) (k : ℕ) → length (met ks k) ≤ length ks + 1
 unfolding met

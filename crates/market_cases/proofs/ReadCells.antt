@@ -8,7 +8,7 @@ use lib.ListN.{length, drop}
 use Rattle.base.specs.Search.{All, all-none, all-more}
 use Rattle.base.proofs.Members.{for-cons}
 use Rattle.tables.specs.Laying.{room, FileRead}
-use Rattle.tables.specs.Ranges.{PermittedCells}
+use Rattle.tables.specs.Ranges.{PermittedCells, PermittedSupply}
 use Rattle.tables.specs.Reading.{rows, refusal, laid}
 use Rattle.tables.specs.Rows.{SupplyRow, supplyRow, supplyRows}
 use Rattle.tables.specs.Table.{
@@ -26,7 +26,7 @@ use Rattle.tables.specs.declared.files.Reading.the-variants.{Rows}
 use Rattle.tables.proofs.Accepted.{accepted}
 use Rattle.tables.proofs.Permitted.{supply-permitted}
 use Rattle.filing.proofs.FilingLaws.{was-read}
-use Rattle.market.specs.Ranges.{Permitted, SupplyCells, mostRelief}
+use Rattle.offers.specs.Ranges.{SupplyCells, mostRelief}
 
 -- a relief that the table permits
 pub relief-permitted : (relief : ℕ) → relief ≤ 1000000 → relief ≤ mostRelief
@@ -37,16 +37,10 @@ pub room-enough : (n : ℕ) → 1280 ≤ n → room Supply ≤ n
 unfolding room width supplyColumns
 room-enough n h = omega arith
 
-permitted : {xs : List ℕ} → PermittedCells supplyColumns xs → Permitted (supplyRow xs)
-unfolding columnAt allColumns constraintColumns supplyColumns schedulesColumns
-permitted p =
-    let q = supply-permitted p in
-    record { mw = q .mw; cost = q .cost; dfax = q .dfax }
-
 all-permitted :
-    {rs : List (List ℕ)} → All (PermittedCells supplyColumns) rs → (r : SupplyRow) → List·Memᴰ r (map supplyRow rs) → Permitted r
+    {rs : List (List ℕ)} → All (PermittedCells supplyColumns) rs → (r : SupplyRow) → List·Memᴰ r (map supplyRow rs) → PermittedSupply r
 all-permitted all-none r m = elim m [ ]
-all-permitted (all-more p ps) r m = for-cons Permitted (permitted p) (all-permitted ps) r m
+all-permitted (all-more p ps) r m = for-cons PermittedSupply (supply-permitted p) (all-permitted ps) r m
 
 module _ (s old new : List ℕ) (r : Reading) (n : ℕ) (w : FileRead Supply s old new r) (e : r ≡ Rows n) where
   taken : refusal Supply s ≡ none

@@ -5,7 +5,7 @@
 // Assumes nothing but a relief that the table permits.
 ghost use Prim.Native.Nat.{_≤_, _<_};
 ghost use lib.ListN.{length};
-ghost use Rattle.market.specs.Ranges.{SupplyCells};
+ghost use Rattle.offers.specs.Ranges.{SupplyCells};
 use libc::STDOUT_FILENO;
 use pivotal::Answer;
 use pivotal::Verdict;
@@ -55,7 +55,7 @@ fn print_rows(cells: &[u64], n: usize, cutoff: u64, clearing: usize)
 {
     let mut row = 0;
     while row < n {
-        print_number(b" ", market::effective_supply(cells, row));
+        print_number(b" ", offers::effective_supply(cells, row));
         print_letter(cells, n, cutoff, clearing, row);
         row += 1;
     }
@@ -66,12 +66,12 @@ fn print_letter(cells: &[u64], n: usize, cutoff: u64, clearing: usize, row: usiz
     requires { ⌜ row < n ⌝ }
 {
     if clearing < n {
-        if market::is_relevant(cells, row, clearing, cutoff) {
+        if offers::is_relevant(cells, row, clearing, cutoff) {
             print(b"r");
             return;
         }
     }
-    if market::is_eligible(cells, row, cutoff) {
+    if offers::is_eligible(cells, row, cutoff) {
         print(b"e");
         return;
     }

@@ -7,7 +7,7 @@ use native.Mathlib.Omega.{arith}
 use Rattle.tables.specs.Rows.{ScheduleRow}
 use Rattle.supply.proofs.CheckLaws.{place-is}
 use Rattle.schedules.specs.Answers.{lowestOf}
-use Rattle.schedules.specs.Checks.{runsChecked, schedulesChecked, InHoursOf}
+use Rattle.schedules.specs.Checks.{runsChecked, schedulesChecked, InRanges}
 use Rattle.schedules.specs.Ranges.{Checked}
 use Rattle.schedules.specs.Schedules.{schedulesAtOdds, strange, unscheduled, lacking}
 use Rattle.schedules.specs.declared.checks.ScheduleCheck.{ScheduleCheck}
@@ -42,7 +42,7 @@ module _ (hour : ℕ) (us : List ℕ) (rs : List ScheduleRow) where
       agree : schedulesAtOdds rs ≡ none
       agree = schedules-at-odds-none rs (sym odd ∙ z)
 
-      pub check-runs-asked : InHoursOf hour rs → Checked hour rs
+      pub check-runs-asked : InRanges hour rs → Checked hour rs
       check-runs-asked h = record { hour = h .hour; ranges = h .ranges; agree = agree }
 
       module _ (q : ℕ) (stranger : q ≡ Option·getD (strange us rs) 0) where

@@ -1,5 +1,4 @@
 pub mod CheckLaws
-pub mod GatherLaws
 pub mod OddsLaws
 pub mod PlaceLaws
 pub mod RunLaws

@@ -141,7 +141,7 @@ same-hours r x k rs same =
 module _ (h : ℕ) (rs : List ScheduleRow) (c : Checked h rs) where
   run-some : (r : ScheduleRow) → List·Memᴰ r rs → h ≤ runEnd h (r .minrun)
   unfolding runEnd
-  run-some r m = omega (arith, c .hour, all-mem (c .ranges) m .least)
+  run-some r m = omega (arith, c .hour, all-mem (c .ranges) m .some-minrun)
 
   run-hours : (r : ScheduleRow) → List·Memᴰ r rs → suc (runEnd h (r .minrun)) - h ≡ suc (runEnd h (r .minrun) - h)
   run-hours r m = omega (arith, run-some r m)

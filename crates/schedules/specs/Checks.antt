@@ -2,12 +2,12 @@
 use Prim.Native.Nat.{ℕ, _≤_}
 use mathlib.Core.List.{List}
 use Rattle.base.specs.Search.{All}
-use Rattle.schedules.specs.Ranges.{InHours}
 use Rattle.schedules.specs.Schedules.{schedulesAtOdds, strange, unscheduled, lacking}
 use Rattle.schedules.specs.declared.checks.ScheduleCheck.{ScheduleCheck}
 use Rattle.schedules.specs.declared.checks.ScheduleCheck.the-variants.{Passed, AtOdds, Strange, Unscheduled, Lacking}
 use Rattle.supply.specs.Checks.{unless}
 use Rattle.tables.specs.Hours.{lastHour}
+use Rattle.tables.specs.Ranges.{PermittedSchedule}
 use Rattle.tables.specs.Rows.{ScheduleRow}
 
 -- 9, behind the other rules
@@ -20,6 +20,6 @@ schedulesChecked hour us rs =
     (unless (strange us rs) Strange (unless (unscheduled us rs) Unscheduled (runsChecked hour us rs)))
 
 -- what reading ensures of schedule rows and the study hour, as far as runs go by it
-pub record InHoursOf (h : ℕ) (rs : List ScheduleRow) : Type 0 where
+pub record InRanges (h : ℕ) (rs : List ScheduleRow) : Type 0 where
   pub hour : h ≤ lastHour
-  pub ranges : All InHours rs
+  pub ranges : All PermittedSchedule rs

@@ -5,17 +5,12 @@ use mathlib.Core.List.{List}
 use mathlib.Core.Option.{none}
 use Rattle.base.specs.Search.{All}
 use Rattle.tables.specs.Hours.{lastHour}
+use Rattle.tables.specs.Ranges.{PermittedSchedule}
 use Rattle.tables.specs.Rows.{ScheduleRow}
 use Rattle.schedules.specs.Schedules.{schedulesAtOdds}
-
--- "hour 0 to 23", "minrun 1 to 24"
-pub record InHours (r : ScheduleRow) : Type 0 where
-  pub hour : r .hour ≤ lastHour
-  pub least : 1 ≤ r .minrun
-  pub most : r .minrun ≤ 24
 
 -- rows in their ranges and at odds with none, and a study hour h in its range
 pub record Checked (h : ℕ) (rs : List ScheduleRow) : Type 0 where
   pub hour : h ≤ lastHour
-  pub ranges : All InHours rs
+  pub ranges : All PermittedSchedule rs
   pub agree : schedulesAtOdds rs ≡ none

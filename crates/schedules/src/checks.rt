@@ -3,7 +3,7 @@ ghost use mathlib.Core.Path.{_≡_};
 ghost use Prim.Native.Nat.{_*_, _≤_};
 ghost use lib.ListN.{length, take};
 ghost use Rattle.tables.specs.Rows.{scheduleRows};
-ghost use Rattle.schedules.specs.Checks.{schedulesChecked, runsChecked, InHoursOf};
+ghost use Rattle.schedules.specs.Checks.{schedulesChecked, runsChecked, InRanges};
 ghost use Rattle.links.specs.Links.{Linked, unitKeys, scheduleKeys, unitKey, scheduleKey};
 ghost use Rattle.schedules.specs.Ranges.{Checked};
 use crate::linking::link_schedules;
@@ -37,7 +37,7 @@ pub fn check_schedules(
     requires { ⌜ n ≤ 1024 ⌝ }
     requires { ⌜ n * 9 ≤ length (now cells) ⌝ }
     requires { ⌜ count ≤ length (now units) ⌝ }
-    requires { ⌜ InHoursOf hour (scheduleRows n (now cells)) ⌝ }
+    requires { ⌜ InRanges hour (scheduleRows n (now cells)) ⌝ }
     ensures { λ r. ⌜ r ≡ schedulesChecked hour (take count (now (units .entry))) (scheduleRows n (now (cells .entry))) ⌝ }
 {
     let mut by_unit = [0usize; UNIT_LINKS];
@@ -61,7 +61,7 @@ fn check_linked(
     requires { ⌜ Linked (unitKey (now cells)) unitKeys n (now «by_unit») ⌝ }
     requires { ⌜ Linked (scheduleKey (now cells)) scheduleKeys n (now «by_schedule») ⌝ }
     requires { ⌜ count ≤ length (now units) ⌝ }
-    requires { ⌜ InHoursOf hour (scheduleRows n (now cells)) ⌝ }
+    requires { ⌜ InRanges hour (scheduleRows n (now cells)) ⌝ }
     ensures { λ r. ⌜ r ≡ schedulesChecked hour (take count (now (units .entry))) (scheduleRows n (now (cells .entry))) ⌝ }
 {
     let odd = schedules_at_odds(cells, n, by_unit, by_schedule);

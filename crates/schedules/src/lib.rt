@@ -1,7 +1,5 @@
-// What schedule rows must be to each other and to the units of supply: refusals 6 to 9. And the rows
-// of one unit, gathered.
+// What schedule rows must be to each other and to the units of supply: refusals 6 to 9.
 mod checks;
-mod gathering;
 mod linking;
 mod odds;
 mod rows;
@@ -9,5 +7,7 @@ mod runs;
 
 pub use checks::ScheduleCheck;
 pub use checks::check_schedules;
-pub use gathering::gather;
 pub use linking::link_units;
+pub use rows::UNIT;
+pub use rows::WIDTH;
+pub use rows::cell;

@@ -6,11 +6,12 @@ ghost use mathlib.Core.Path.{_≡_};
 ghost use Prim.Native.Nat.{_+_, _*_, _≤_, _<_};
 ghost use lib.ListN.{length, take};
 ghost use Rattle.tables.specs.Hours.{lastHour};
+ghost use Rattle.tables.specs.Ranges.{PermittedSchedule};
 ghost use Rattle.tables.specs.Rows.{scheduleRows};
 ghost use Rattle.tables.proofs.RowViews.{scheduleAt};
 ghost use Rattle.schedules.specs.Answers.{lowestOf};
 ghost use Rattle.links.specs.Links.{Linked, unitKeys, scheduleKeys, unitKey, scheduleKey};
-ghost use Rattle.schedules.specs.Ranges.{InHours, Checked};
+ghost use Rattle.schedules.specs.Ranges.{Checked};
 ghost use Rattle.schedules.specs.Runs.{atHour, hasHour, lacks as Runs·lacks, runs as Runs·runs, stops as Runs·stops};
 ghost use Rattle.schedules.specs.Schedules.{own, lacking as Schedules·lacking};
 use crate::rows::HOUR;
@@ -85,7 +86,7 @@ fn stops(cells: &[u64], n: usize, by_schedule: &[usize], k: usize, unit: u64, ho
     requires { ⌜ Linked (scheduleKey (now cells)) scheduleKeys n (now «by_schedule») ⌝ }
     requires { ⌜ k < n ⌝ }
     requires { ⌜ hour ≤ lastHour ⌝ }
-    requires { ⌜ InHours (scheduleAt (now cells) k) ⌝ }
+    requires { ⌜ PermittedSchedule (scheduleAt (now cells) k) ⌝ }
     ensures { λ r. ⌜ r ≡ Runs·stops unit hour (scheduleRows n (now (cells .entry))) (scheduleAt (now (cells .entry)) k) ⌝ }
 {
     if cell(cells, k, UNIT) != unit {
@@ -100,7 +101,7 @@ fn runs(cells: &[u64], n: usize, by_schedule: &[usize], k: usize, hour: u64) -> 
     requires { ⌜ Linked (scheduleKey (now cells)) scheduleKeys n (now «by_schedule») ⌝ }
     requires { ⌜ k < n ⌝ }
     requires { ⌜ hour ≤ lastHour ⌝ }
-    requires { ⌜ InHours (scheduleAt (now cells) k) ⌝ }
+    requires { ⌜ PermittedSchedule (scheduleAt (now cells) k) ⌝ }
     ensures { λ r. ⌜ r ≡ Runs·runs hour (scheduleRows n (now (cells .entry))) (scheduleAt (now (cells .entry)) k) ⌝ }
 {
     if !has_hour(cells, n, by_schedule, k, hour) {

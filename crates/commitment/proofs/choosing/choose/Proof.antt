@@ -4,8 +4,8 @@ use mathlib.Core.Path.{_≡_, sym, _∙_}
 use native.Mathlib.Omega.{arith}
 use lib.ListN.{drop}
 use Rattle.tables.specs.Rows.{scheduleRows}
-use Rattle.commitment.specs.Schedules.{kindIn, eligible}
-use Rattle.commitment.specs.Choosing.{shown, candidates, choice}
+use Rattle.choice.specs.Schedules.{kindIn, eligible}
+use Rattle.choice.specs.Choosing.{shown, candidates, choice}
 use Rattle.commitment.proofs.ChoiceLaws.{keptOf, kept-further, kept-over}
 use Rattle.commitment.proofs.choosing.choose.Statement.{statement}
 use Rattle.commitment.proofs.choosing.choose.Tie as tie

@@ -4,7 +4,7 @@ use mathlib.Core.Path.{_≡_, refl, sym, _∙_}
 use native.Mathlib.Omega.{arith}
 use lib.ListN.{drop}
 use Rattle.tables.specs.Rows.{scheduleRows}
-use Rattle.commitment.specs.Schedules.{schedules, hasAny}
+use Rattle.choice.specs.Schedules.{schedules, hasAny}
 use Rattle.commitment.proofs.UnitLaws.{row-here}
 use Rattle.commitment.proofs.ChoiceLaws.{any-further, any-over}
 use Rattle.commitment.proofs.choosing.has_any.Statement.{statement}

@@ -1,6 +1,6 @@
 -- Whether a row is for the hour and of some kinds. Assumes nothing.
 use borrow.Author.Tests.{eq-eqb, ne-eqb}
-use Rattle.commitment.specs.Schedules.{atHour, ofKinds, offers}
+use Rattle.choice.specs.Schedules.{atHour, ofKinds, offers}
 use borrow.Author.Needs.{needs}
 use Rattle.commitment.proofs.choosing.offers.Statement.{statement}
 use Rattle.commitment.proofs.choosing.offers.Tie as tie

@@ -1,5 +1,5 @@
 -- A schedule as an answer shows it. Assumes nothing.
-use Rattle.commitment.specs.Choosing.{shown}
+use Rattle.choice.specs.Choosing.{shown}
 use borrow.Author.Needs.{needs}
 use Rattle.commitment.proofs.choosing.shown.Statement.{statement}
 use Rattle.commitment.proofs.choosing.shown.Tie as tie

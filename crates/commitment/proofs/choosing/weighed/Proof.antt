@@ -1,6 +1,6 @@
 -- One row more, weighed. Assumes nothing.
 use mathlib.Core.Path.{sym, _∙_}
-use Rattle.commitment.specs.Choosing.{weighed}
+use Rattle.choice.specs.Choosing.{weighed}
 use Rattle.commitment.proofs.UnitLaws.{row-here}
 use Rattle.commitment.proofs.ChoiceLaws.{hour-offered}
 use borrow.Author.Needs.{needs}

@@ -1,7 +1,7 @@
 -- The cost of a schedule. Assumes nothing.
 use native.Mathlib.Omega.{arith}
 use Rattle.commitment.specs.Ranges.{rowAt}
-use Rattle.commitment.specs.Cost.{runningCost, startingCost, cost}
+use Rattle.choice.specs.Cost.{runningCost, startingCost, cost}
 use Rattle.commitment.proofs.UnitLaws.{row-here}
 use Rattle.commitment.proofs.CostLaws.{unit-run-small}
 use borrow.Author.Needs.{needs}

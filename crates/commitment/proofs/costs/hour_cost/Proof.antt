@@ -1,6 +1,6 @@
 -- The cost of an hour. Assumes nothing.
 use native.Mathlib.Omega.{arith}
-use Rattle.commitment.specs.Cost.{hourCost}
+use Rattle.choice.specs.Cost.{hourCost}
 use Rattle.commitment.proofs.CostLaws.{output-small}
 use borrow.Author.Needs.{needs}
 use Rattle.commitment.proofs.costs.hour_cost.Statement.{statement}

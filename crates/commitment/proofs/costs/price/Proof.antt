@@ -1,5 +1,5 @@
 -- The price of an hour by the row's kind. Assumes nothing.
-use Rattle.commitment.specs.Cost.{offerPrice, price}
+use Rattle.choice.specs.Cost.{offerPrice, price}
 use borrow.Author.Needs.{needs}
 use Rattle.commitment.proofs.costs.price.Statement.{statement}
 use Rattle.commitment.proofs.costs.price.Tie as tie

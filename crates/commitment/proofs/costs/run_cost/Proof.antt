@@ -5,7 +5,7 @@ use native.Mathlib.Omega.{arith}
 use lib.ListN.{drop}
 use Rattle.tables.specs.Rows.{scheduleRows}
 use Rattle.commitment.specs.Ranges.{rowAt}
-use Rattle.commitment.specs.Cost.{runCost}
+use Rattle.choice.specs.Cost.{runCost}
 use Rattle.commitment.proofs.UnitLaws.{row-here}
 use Rattle.commitment.proofs.CostLaws.{unit-run-small, run-next, run-over}
 use Rattle.commitment.proofs.costs.run_cost.Statement.{statement}

@@ -1,6 +1,6 @@
 -- A unit's test in a market that is not short. Assumes nothing.
 use mathlib.Core.Path.{sym, _∙_}
-use Rattle.market.proofs.CellLaws.{row-cells}
+use Rattle.offers.proofs.CellLaws.{row-cells}
 use Rattle.decision.proofs.StandingLaws.{relief-fits}
 use Rattle.decision.proofs.TestingLaws.{market-limited, market-clears, remains-left, relevant-wanted, test-failed, test-passed}
 use borrow.Author.Needs.{needs}

@@ -1,7 +1,7 @@
 -- A unit's test, as the market stands. Assumes nothing.
 use Prim.Native.Nat.{_-_}
 use native.Mathlib.Omega.{arith}
-use Rattle.market.proofs.CellLaws.{row-cells}
+use Rattle.offers.proofs.CellLaws.{row-cells}
 use Rattle.decision.proofs.TestingLaws.{was-short, lent-market, parties-reach, eligible-wanted, test-short}
 use borrow.Author.Needs.{needs}
 use Rattle.decision.proofs.testing.test_unit.Statement.{statement}

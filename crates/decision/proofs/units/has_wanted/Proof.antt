@@ -4,7 +4,7 @@ use mathlib.Core.Path.{_≡_, sym, _∙_}
 use native.Mathlib.Omega.{arith}
 use lib.ListN.{drop}
 use Rattle.tables.specs.Rows.{supplyRows}
-use Rattle.market.proofs.CellLaws.{row-cells}
+use Rattle.offers.proofs.CellLaws.{row-cells}
 use Rattle.decision.specs.Units.{anyOf, wantedRow}
 use Rattle.decision.proofs.UnitLaws.{any-further, any-over}
 use Rattle.decision.proofs.units.has_wanted.Statement.{statement}

@@ -2,7 +2,7 @@
 use Prim.Native.Nat.{_-_}
 use mathlib.Core.Path.{sym, _∙_}
 use native.Mathlib.Omega.{arith}
-use Rattle.market.proofs.CellLaws.{row-cells}
+use Rattle.offers.proofs.CellLaws.{row-cells}
 use Rattle.decision.proofs.UnitLaws.{Seeking, seeking-none, seeking-within, seeking-found, seeking-later, seeking-last}
 use Rattle.decision.proofs.units.row_of.Statement.{statement}
 use Rattle.decision.proofs.units.row_of.Tie as tie

@@ -1,5 +1,5 @@
 -- Schedules read, then checked. Assumes nothing.
-use Rattle.filing.proofs.StepLaws.{schedules-unread, schedules-fit, schedules-in-hours, schedules-filed}
+use Rattle.filing.proofs.StepLaws.{schedules-unread, schedules-fit, schedules-in-ranges, schedules-filed}
 use borrow.Author.Needs.{needs}
 use Rattle.filing.proofs.files.file_schedules.Statement.{statement}
 use Rattle.filing.proofs.files.file_schedules.Tie as tie
@@ -14,7 +14,7 @@ enum-known-reading-2 : tie.Need-enum-known-reading-2
 enum-known-reading-2 c = search needs
 
 check-schedules-requires : tie.Need-check-schedules-requires
-check-schedules-requires c κs = (schedules-fit _ _ _ _ (c .before .before .before .before .before .before .read .ensures) _ (c .before .before .reading2 .given .1) (search needs) .0, (schedules-fit _ _ _ _ (c .before .before .before .before .before .before .read .ensures) _ (c .before .before .reading2 .given .1) (search needs) .1, (search needs, schedules-in-hours _ _ _ _ (c .before .before .before .before .before .before .read .ensures) _ (c .before .before .reading2 .given .1) _ (search needs))))
+check-schedules-requires c κs = (schedules-fit _ _ _ _ (c .before .before .before .before .before .before .read .ensures) _ (c .before .before .reading2 .given .1) (search needs) .0, (schedules-fit _ _ _ _ (c .before .before .before .before .before .before .read .ensures) _ (c .before .before .reading2 .given .1) (search needs) .1, (search needs, schedules-in-ranges _ _ _ _ (c .before .before .before .before .before .before .read .ensures) _ (c .before .before .reading2 .given .1) _ (search needs))))
 
 schedules-answer-requires : tie.Need-schedules-answer-requires
 schedules-answer-requires c κs = search needs

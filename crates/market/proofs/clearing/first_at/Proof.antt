@@ -3,8 +3,8 @@ use Prim.Native.Nat.{_-_}
 use mathlib.Core.Path.{sym, _∙_}
 use native.Mathlib.Omega.{arith}
 use Rattle.market.specs.Narrowing.{eligibleAt, firstAt}
-use Rattle.market.specs.Ranges.{cellsRow}
-use Rattle.market.proofs.CellLaws.{row-cells}
+use Rattle.offers.specs.Ranges.{cellsRow}
+use Rattle.offers.proofs.CellLaws.{row-cells}
 use Rattle.market.proofs.TryLaws.{Trying, trying-none, trying-next, trying-here, trying-over}
 use Rattle.market.proofs.clearing.first_at.Statement.{statement}
 use Rattle.market.proofs.clearing.first_at.Tie as tie

@@ -2,7 +2,7 @@
 use mathlib.Core.Bool.{and-false}
 use native.Mathlib.Omega.{arith}
 use Rattle.market.specs.Narrowing.{between}
-use Rattle.market.proofs.CellLaws.{row-cells}
+use Rattle.offers.proofs.CellLaws.{row-cells}
 use borrow.Author.Needs.{needs}
 use Rattle.market.proofs.narrowing.is_between.Statement.{statement}
 use Rattle.market.proofs.narrowing.is_between.Tie as tie

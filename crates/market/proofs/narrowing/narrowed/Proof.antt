@@ -2,7 +2,7 @@
 use mathlib.Core.Path.{sym, _∙_}
 use native.Mathlib.Omega.{arith}
 use Rattle.market.specs.Parts.{inPart}
-use Rattle.market.proofs.CellLaws.{row-cells}
+use Rattle.offers.proofs.CellLaws.{row-cells}
 use Rattle.market.proofs.NarrowingLaws.{narrows-not, narrows-low, narrows-high}
 use borrow.Author.Needs.{needs}
 use borrow.Author.Tests.{not-true, not-false}

@@ -6,8 +6,8 @@ use borrow.Author.Needs.{needs}
 use Rattle.tables.specs.Rows.{supplyRows}
 use Rattle.market.specs.Parties.{amountOf}
 use Rattle.market.specs.Parts.{inPart}
-use Rattle.market.specs.Ranges.{cellsRow}
-use Rattle.market.proofs.CellLaws.{row-cells}
+use Rattle.offers.specs.Ranges.{cellsRow}
+use Rattle.offers.proofs.CellLaws.{row-cells}
 use Rattle.market.proofs.ListingLaws.{Filling, filling-none, filling-next}
 use Rattle.market.proofs.parties.add_amounts.Statement.{statement}
 use Rattle.market.proofs.parties.add_amounts.Tie as tie

@@ -1,7 +1,7 @@
 -- The parties, one row a turn. Assumes nothing.
 use Prim.Native.Nat.{_-_}
 use native.Mathlib.Omega.{arith}
-use Rattle.market.proofs.CellLaws.{row-cells}
+use Rattle.offers.proofs.CellLaws.{row-cells}
 use Rattle.market.proofs.ListingLaws.{Listing, listing-none, listing-length, listing-room, listing-next, listing-over}
 use Rattle.market.proofs.parties.list_parties.Statement.{statement}
 use Rattle.market.proofs.parties.list_parties.Tie as tie

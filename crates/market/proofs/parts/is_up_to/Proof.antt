@@ -2,7 +2,7 @@
 use mathlib.Core.Bool.{and-false, and-true}
 use borrow.Author.Needs.{needs}
 use borrow.Author.Tests.{le-leb, lt-leb}
-use Rattle.market.specs.Supply.{atMost}
+use Rattle.offers.specs.Supply.{atMost}
 use Rattle.market.specs.Clearing.{eligibleUpTo}
 use Rattle.market.proofs.parts.is_up_to.Statement.{statement}
 use Rattle.market.proofs.parts.is_up_to.Tie as tie

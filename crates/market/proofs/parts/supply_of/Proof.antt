@@ -2,7 +2,7 @@
 use Prim.Native.Nat.{_-_}
 use native.Mathlib.Omega.{arith}
 use Rattle.market.specs.Parts.{inPart}
-use Rattle.market.proofs.CellLaws.{row-cells}
+use Rattle.offers.proofs.CellLaws.{row-cells}
 use Rattle.market.proofs.PartLaws.{Adding, adding-none, adding-fits, adding-next, adding-over}
 use Rattle.market.proofs.parts.supply_of.Statement.{statement}
 use Rattle.market.proofs.parts.supply_of.Tie as tie

@@ -1,6 +1,6 @@
 -- The letter of a row: its cells, and those of the clearing row, are among the rows lent. Assumes nothing.
 use native.Mathlib.Omega.{arith}
-use Rattle.market.proofs.CellLaws.{row-cells}
+use Rattle.offers.proofs.CellLaws.{row-cells}
 use borrow.Author.Needs.{needs}
 use Rattle.market_cases.proofs.report.print_letter.Statement.{statement}
 use Rattle.market_cases.proofs.report.print_letter.Tie as tie

@@ -1,7 +1,7 @@
 -- The rows, one a turn. Assumes nothing.
 use Prim.Native.Nat.{_≤_, _-_}
 use native.Mathlib.Omega.{arith}
-use Rattle.market.proofs.CellLaws.{row-cells}
+use Rattle.offers.proofs.CellLaws.{row-cells}
 use borrow.Author.Needs.{needs}
 use Rattle.market_cases.proofs.report.print_rows.Statement.{statement}
 use Rattle.market_cases.proofs.report.print_rows.Tie as tie

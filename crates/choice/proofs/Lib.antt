@@ -1,0 +1,4 @@
+pub mod ChoiceRight
+pub mod ExposedExactly
+pub mod LeastLaws
+pub mod SomeEligible

@@ -1,0 +1,5 @@
+pub mod Choosing
+pub mod Cost
+pub mod Exposure
+pub mod Right
+pub mod Schedules

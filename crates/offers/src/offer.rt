@@ -1,0 +1,24 @@
+// The capped offer of an incremental cost.
+ghost use mathlib.Core.Path.{_≡_};
+ghost use Prim.Native.Nat.{_≤_, min};
+ghost use Rattle.offers.specs.Offer.{capped as Offer·capped, highest};
+
+// A tenth of the cost is added to it, but not more than this.
+const MOST_ADDED: u64 = 10000;
+
+// No capped offer is higher.
+const HIGHEST: u64 = 200000;
+
+pub fn capped(cost: u64) -> u64
+    requires { ⌜ cost ≤ highest ⌝ }
+    ensures { λ r. ⌜ r ≡ Offer·capped cost ⌝ }
+    ensures { λ r. ⌜ r ≤ highest ⌝ }
+{
+    least(cost + least(cost / 10, MOST_ADDED), HIGHEST)
+}
+
+fn least(a: u64, b: u64) -> u64
+    ensures { λ r. ⌜ r ≡ min a b ⌝ }
+{
+    if a < b { a } else { b }
+}

@@ -3,6 +3,7 @@
 // need no rows.
 mod choosing;
 mod kinds;
+mod prices;
 
 pub use choosing::Choice;
 pub use choosing::Chosen;
@@ -12,3 +13,4 @@ pub use kinds::Kinds;
 pub use kinds::admits;
 pub use kinds::eligible_kinds;
 pub use kinds::running;
+pub use prices::offer_price;

@@ -15,8 +15,7 @@ use crate::rows::SCHEDULE;
 use crate::rows::STARTUP;
 use crate::rows::cell;
 use crate::rows::kind;
-use offers::capped;
-use tables::Kind;
+use choice::offer_price;
 
 // The last hour of the day.
 const LAST_HOUR: u64 = 23;
@@ -101,9 +100,5 @@ fn price(cells: &[u64], i: usize) -> u64
     requires { ⌜ RowAt (now cells) i ⌝ }
     ensures { λ r. ⌜ r ≡ Cost·price (rowAt (now (cells .entry)) i) ⌝ }
 {
-    let listed = cell(cells, i, PRICE);
-    match kind(cells, i) {
-        Kind::M => listed,
-        Kind::C => capped(listed),
-    }
+    offer_price(kind(cells, i), cell(cells, i, PRICE))
 }

@@ -3,6 +3,7 @@ ghost use Prim.Native.Nat.{_<_};
 use engine::Day;
 use engine::LastHour;
 use engine::Running;
+use engine::Units;
 use tables::Kind;
 
 // The letters of the kinds.
@@ -15,34 +16,28 @@ const WIDTH: usize = 3;
 
 // A day that counts `count` units, with these in its places and unit 0 in those behind them.
 pub fn day(hour: LastHour, count: usize, units: &[u64]) -> Day {
-    let fresh = Day::fresh();
-    let mut running = fresh.running;
+    let none = Units::none();
+    let mut running = none.running;
     let mut i = 0;
-    while i < Day::UNITS {
+    while i < Units::MOST {
         running[i] = unit_at(units, i);
         i += 1;
     }
-    Day {
-        hour,
-        count,
-        running,
-    }
+    let units = Units { count, running };
+    Day { hour, units }
 }
 
 // A day that counts `count` units, with 1, 2 and so on in all its places.
 pub fn full(hour: LastHour, count: usize) -> Day {
-    let fresh = Day::fresh();
-    let mut running = fresh.running;
+    let none = Units::none();
+    let mut running = none.running;
     let mut i = 0;
-    while i < Day::UNITS {
+    while i < Units::MOST {
         running[i] = on_m(i);
         i += 1;
     }
-    Day {
-        hour,
-        count,
-        running,
-    }
+    let units = Units { count, running };
+    Day { hour, units }
 }
 
 fn unit_at(units: &[u64], i: usize) -> Running {

@@ -2,6 +2,7 @@
 use engine::Day;
 use engine::LastHour;
 use engine::Running;
+use engine::Units;
 use libc::STDOUT_FILENO;
 use tables::Kind;
 use tables::Refusal;
@@ -22,11 +23,12 @@ pub fn print_day(day: Day) {
         LastHour::Fresh => print(b" none "),
         LastHour::At(h) => print_hour(h),
     }
-    io::print_decimal(STDOUT_FILENO, day.count as u64);
+    let units = day.units;
+    io::print_decimal(STDOUT_FILENO, units.count as u64);
     let mut i = 0;
-    while i < Day::UNITS {
-        if i < day.count {
-            let r = day.running[i];
+    while i < Units::MOST {
+        if i < units.count {
+            let r = units.running[i];
             print_unit(r);
         }
         i += 1;

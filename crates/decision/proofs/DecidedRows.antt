@@ -12,7 +12,8 @@ use Rattle.tables.specs.declared.files.Kind.the-variants.{M, C}
 use Rattle.judge.specs.Answer.{answerRows}
 use Rattle.judge.specs.Day.{RunningUnit, kindRunning}
 use Rattle.judge.specs.Decision.{choiceOf, decidedRow, lacksCost}
-use Rattle.decision.specs.Deciding.{kindCell, kindAt, lacksCostBy, rowBy, costlessBy, laidBy}
+use Rattle.running.specs.Asking.{kindCell}
+use Rattle.decision.specs.Deciding.{kindAt, lacksCostBy, rowBy, costlessBy, laidBy}
 use Rattle.decision.specs.Testing.{unitTest}
 
 kind-back : (o : Option Kind) → kindAt (kindCell o) ≡ o

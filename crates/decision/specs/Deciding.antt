@@ -22,12 +22,7 @@ use Rattle.decision.specs.declared.deciding.Decided.{Decided}
 use Rattle.decision.specs.declared.deciding.Decided.the-variants.{All, Costless}
 use Rattle.decision.specs.declared.testing.UnitTest.{UnitTest}
 
--- the day's kind for a unit as a cell: 0 where it doesn't run, else the kind's letter
-abbrev pub kindCell : Option Kind → ℕ
-kindCell none = 0
-kindCell (some k) = letterOf k
-
--- and out of the cell
+-- the day's kind for a unit, out of its cell
 unfoldable pub kindAt : ℕ → Option Kind
 kindAt x = cond (eqb x 0) none (some (kindOf x))
 

@@ -32,7 +32,7 @@ use Rattle.supply.proofs.UnitLaws.{units-rising, among-units}
 use Rattle.market.specs.Parties.{party, parties, met, metAll}
 use Rattle.pivotal.specs.Suppliers.{among as amongParties}
 use Rattle.commitment.specs.Ranges.{UnitRows}
-use Rattle.decision.specs.Deciding.{kindCell, costlessBy, laidBy, Decides, UnitCells}
+use Rattle.decision.specs.Deciding.{costlessBy, laidBy, Decides, UnitCells}
 use Rattle.decision.specs.Standing.{MarketCells}
 use Rattle.decision.specs.declared.deciding.Decided.{Decided}
 use Rattle.decision.specs.declared.deciding.Decided.the-variants.{All as AllDecided, Costless}
@@ -41,7 +41,7 @@ use Rattle.answer.proofs.StudyLetters.{decided-lettered}
 use Rattle.judge.specs.Answer.{AnswerRow, answerRows}
 use Rattle.judge.specs.Day.{RunningUnit, kindRunning}
 use Rattle.judge.specs.Decision.{ofUnit, decidedRow, decided, costless}
-use Rattle.engine.specs.Asking.{KindsLaid}
+use Rattle.running.specs.Asking.{KindsLaid}
 use Rattle.engine.specs.Studying.{UnitsOf, RowsDecided}
 
 -- as many parties as suppliers, since a row counts for its supplier

@@ -5,7 +5,7 @@ use mathlib.Core.List.{List}
 use native.Mathlib.Omega.{arith}
 use lib.ListN.{take}
 use Rattle.judge.specs.Day.{RunningUnit, mostRunning, wouldRun}
-use Rattle.engine.specs.Committing.{Fits}
+use Rattle.running.specs.Committing.{Fits}
 use Rattle.engine.specs.Studying.{RowsDecided}
 
 pub rows-fit :

@@ -21,7 +21,7 @@ use Rattle.tables.specs.declared.files.Refusal.{Refusal}
 use Rattle.filing.specs.Filing.{constraintOf, supplyOf, schedulesOf, filingRefusal}
 use Rattle.supply.specs.Supply.{units}
 use Rattle.judge.specs.Answer.{AnswerRow, answerText}
-use Rattle.judge.specs.Day.{DayView, mostRunning, dayFormed, stateRefused, unless, earlier, wouldRun, committed}
+use Rattle.judge.specs.Day.{DayView, mostRunning, dayFormed, stateRefused, unless, earlier, wouldRun, putAll, committed}
 use Rattle.judge.specs.Decision.{decided, costless}
 use Rattle.judge.specs.Right.{Right}
 use Rattle.judge.specs.Study.{
@@ -39,9 +39,12 @@ use Rattle.judge.specs.Study.{
   studied,
 }
 use Rattle.judge.proofs.Demand3.{demand-3}
+use Rattle.running.specs.View.{unitsOf}
+use Rattle.running.specs.declared.units.Units.{Units}
 use Rattle.engine.specs.Studying.{studyAnswer, refusing, Comes, Studies, AnswersRight, rowsStudied, decidedStudied}
 use Rattle.engine.specs.View.{viewOf}
 use Rattle.engine.specs.declared.day.Day.{Day}
+use Rattle.engine.specs.declared.day.LastHour.the-variants.{At}
 use Rattle.engine.specs.declared.studying.Study.the-variants.{Written, Refused}
 use Rattle.engine.specs.declared.studying.Studied.{Studied}
 
@@ -78,15 +81,15 @@ module _ (day : Day) (h : ℕ) (rows : List AnswerRow) (buffer : List ℕ) where
 
   -- accepted, written and committed
   pub comes-written :
-      (o : Option Refusal) (after : Day) (new : List ℕ) (count : ℕ) → o ≡ none → Wrote (answerText rows) count buffer new →
-      viewOf after ≡ committed h (map chosen rows) (viewOf day) →
-      Comes day (answerText rows) (outcome (viewOf day) h rows buffer o) new (record { day = after; answer = Written count })
-  unfolding outcome written
+      (o : Option Refusal) (after : Units) (new : List ℕ) (count : ℕ) → o ≡ none → Wrote (answerText rows) count buffer new →
+      unitsOf after ≡ putAll (map chosen rows) (viewOf day .running) →
+      Comes day (answerText rows) (outcome (viewOf day) h rows buffer o) new (record { day = record { hour = At h; units = after }; answer = Written count })
+  unfolding outcome written committed viewOf
   comes-written o after new count e w v =
       rw e
       (record {
         answers = ap Written (w .counted);
-        day-after = v;
+        day-after = rw v;
         bytes = w .written;
         very-day = λ f z. let y : _≡_ {A = ℕ} 0 1 = cc z in absurd (omega arith);
       })
@@ -119,9 +122,9 @@ module _ (day : Day) (h : ℕ) (us : List ℕ) (rows : List AnswerRow) (buffer :
           g
 
       pub decided-written :
-          n ≤ length buffer → (after : Day) (new : List ℕ) (count : ℕ) → Wrote (answerText rows) count buffer new →
-          viewOf after ≡ committed h (map chosen rows) (viewOf day) →
-          Comes day (answerText rows) (decidedStudied (viewOf day) h us rows buffer) new (record { day = after; answer = Written count })
+          n ≤ length buffer → (after : Units) (new : List ℕ) (count : ℕ) → Wrote (answerText rows) count buffer new →
+          unitsOf after ≡ putAll (map chosen rows) (viewOf day .running) →
+          Comes day (answerText rows) (decidedStudied (viewOf day) h us rows buffer) new (record { day = record { hour = At h; units = after }; answer = Written count })
       unfolding decidedStudied cramped
       decided-written e after new count =
           comes-written day h rows buffer _ after new count

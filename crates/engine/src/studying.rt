@@ -10,9 +10,12 @@ ghost use Rattle.decision.specs.Standing.{MarketCells};
 ghost use Rattle.judge.specs.Answer.{answerRows, answerText};
 ghost use Rattle.judge.specs.Day.{dayFormed, stateRefused};
 ghost use Rattle.judge.specs.Decision.{decided};
+ghost use Rattle.running.specs.Forming.{unitsFormed};
+ghost use Rattle.running.specs.View.{unitsOf};
 ghost use Rattle.engine.specs.View.{viewOf};
 ghost use Rattle.engine.specs.Studying.{Comes, Studies, AnswersRight, refusing, rowsStudied, decidedStudied, UnitsOf, RowsDecided};
 use crate::day::Day;
+use crate::day::LastHour;
 use crate::sizes::ANSWER_CELLS;
 use crate::sizes::CONSTRAINT_CELLS;
 use crate::sizes::SCHEDULE_CELLS;
@@ -123,7 +126,7 @@ impl Day {
         k: usize,
         answer: &mut [u8],
     ) -> Studied
-        requires { ⌜ dayFormed (viewOf self) ≡ true ⌝ }
+        requires { ⌜ unitsFormed (unitsOf (self .units)) ≡ true ⌝ }
         requires { ⌜ MarketCells (now constraint) n (now supply) ⌝ }
         requires { ⌜ UnitRows m (now schedules) ⌝ }
         requires { ⌜ UnitsOf k (supplyRows n (now supply)) (now units) ⌝ }
@@ -134,7 +137,8 @@ impl Day {
             return self.refuse_by_state(EARLIER_HOUR);
         }
         let mut kinds = [0u64; Day::UNITS];
-        self.lay_kinds(units, k, &mut kinds);
+        let running = self.units;
+        running.lay_kinds(units, k, &mut kinds);
         let mut rows = [0u64; ANSWER_CELLS];
         let decided = decide(
             constraint,
@@ -166,18 +170,22 @@ impl Day {
         k: usize,
         answer: &mut [u8],
     ) -> Studied
-        requires { ⌜ dayFormed (viewOf self) ≡ true ⌝ }
+        requires { ⌜ unitsFormed (unitsOf (self .units)) ≡ true ⌝ }
         requires { ⌜ RowsDecided k (now units) (now rows) ⌝ }
         ensures { λ r. ⌜ Comes self (answerText (answerRows k (now (rows .entry)))) (decidedStudied (viewOf self) hour (take k (now (units .entry))) (answerRows k (now (rows .entry))) (now (answer .entry))) (now (answer .exit)) r ⌝ }
     {
-        if self.would_run(units, k) > Day::UNITS {
+        let running = self.units;
+        if running.would_run(units, k) > Day::UNITS {
             return self.refuse_by_state(TOO_MANY_RUNNING);
         }
         if answer.len() < answer::length(rows, k) {
             return self.refuse_by_state(SHORT_BUFFER);
         }
         let count = answer::write(rows, k, answer);
-        let day = self.commit(hour, rows, k);
+        let day = Day {
+            hour: LastHour::At(hour),
+            units: running.merged(rows, k),
+        };
         Studied {
             day,
             answer: Study::Written(count),

@@ -14,6 +14,7 @@ use crate::words::is;
 use engine::Day;
 use engine::LastHour;
 use engine::Running;
+use engine::Units;
 use tables::Kind;
 
 // The most units that a day is read with.
@@ -75,12 +76,15 @@ fn read_hour(text: &[u8]) -> HourRead {
 // The day of an hour and of units, each of which stands behind a separator; the first separator
 // alone stands for no units.
 fn read_units(hour: LastHour, text: &[u8]) -> DayRead {
-    let mut day = of_hour(hour);
     if text.len() == 0 {
         return unreadable();
     }
+    let mut units = Units::none();
     if text.len() == 1 {
-        return DayRead { is_read: true, day };
+        return DayRead {
+            is_read: true,
+            day: Day { hour, units },
+        };
     }
     let mut at = 0;
     while at < text.len() {
@@ -90,37 +94,28 @@ fn read_units(hour: LastHour, text: &[u8]) -> DayRead {
         let UnitRead::Unit(unit) = read_unit(&rest[0..e]) else {
             return unreadable();
         };
-        if MOST_UNITS <= day.count {
+        if MOST_UNITS <= units.count {
             return unreadable();
         }
-        day = with_unit(day, unit);
+        units = with_unit(units, unit);
         at = start + e;
     }
-    DayRead { is_read: true, day }
-}
-
-fn of_hour(hour: LastHour) -> Day {
-    let fresh = Day::fresh();
-    let running = fresh.running;
-    Day {
-        hour,
-        count: 0,
-        running,
+    DayRead {
+        is_read: true,
+        day: Day { hour, units },
     }
 }
 
-// The day with one unit more, kept where it has room for it.
-fn with_unit(day: Day, unit: Running) -> Day
-    requires { ⌜ day .count < 1000 ⌝ }
+// One unit more, kept where there is room for it.
+fn with_unit(units: Units, unit: Running) -> Units
+    requires { ⌜ units .count < 1000 ⌝ }
 {
-    let hour = day.hour;
-    let at = day.count;
-    let mut running = day.running;
-    if at < Day::UNITS {
+    let at = units.count;
+    let mut running = units.running;
+    if at < Units::MOST {
         running[at] = unit;
     }
-    Day {
-        hour,
+    Units {
         count: at + 1,
         running,
     }
@@ -174,7 +169,8 @@ fn put_hourless(day: Day, out: &mut [u8], at: usize) -> usize
     requires { ⌜ at < length (now out) ⌝ }
     ensures { λ r. ⌜ r < length (now (out .exit)) ⌝ }
 {
-    if day.count == 0 {
+    let units = day.units;
+    if units.count == 0 {
         return put_byte(b'-', out, at);
     }
     let next = put_text(b"n;", out, at);
@@ -185,11 +181,12 @@ fn put_units(day: Day, out: &mut [u8], at: usize) -> usize
     requires { ⌜ at < length (now out) ⌝ }
     ensures { λ r. ⌜ r < length (now (out .exit)) ⌝ }
 {
-    let count = kept(day.count);
+    let units = day.units;
+    let count = kept(units.count);
     let mut next = at;
     let mut i = 0;
     while i < count {
-        let unit = day.running[i];
+        let unit = units.running[i];
         next = put_unit(unit, i, out, next);
         i += 1;
     }
@@ -200,10 +197,10 @@ fn put_units(day: Day, out: &mut [u8], at: usize) -> usize
 fn kept(count: usize) -> usize
     ensures { λ r. ⌜ r ≤ 64 ⌝ }
 {
-    if count < Day::UNITS {
+    if count < Units::MOST {
         count
     } else {
-        Day::UNITS
+        Units::MOST
     }
 }
 

@@ -15,6 +15,7 @@ use engine::Day;
 use engine::LastHour;
 use engine::Running;
 use engine::Study;
+use engine::Units;
 use libc::STDOUT_FILENO;
 use tables::Kind;
 
@@ -182,8 +183,9 @@ fn empty(day: Day, room: usize) -> Day
 
 // 64 units on M but for unit 12.
 fn full_with_cost() -> Day {
-    let day = full(LastHour::At(5), Day::UNITS);
-    let mut running = day.running;
+    let day = full(LastHour::At(5), Units::MOST);
+    let units = day.units;
+    let mut running = units.running;
     running[11] = Running {
         unit: 12,
         schedule: 2,
@@ -191,8 +193,10 @@ fn full_with_cost() -> Day {
     };
     Day {
         hour: LastHour::At(5),
-        count: Day::UNITS,
-        running,
+        units: Units {
+            count: Units::MOST,
+            running,
+        },
     }
 }
 

@@ -5,10 +5,10 @@ use Rattle.days.proofs.printing.print_day.Statement.{statement}
 use Rattle.days.proofs.printing.print_day.Tie as tie
 
 abbrev Inv-loop : tie.InvT-loop
-Inv-loop day i₀ t8 i = i ≤ 64
+Inv-loop units i₀ t8 i = i ≤ 64
 
 abbrev μ-loop : tie.MeasureT-loop
-μ-loop day i₀ t8 i = 64 - i
+μ-loop units i₀ t8 i = 64 - i
 
 enum-told : tie.Need-enum-told Inv-loop μ-loop
 enum-told c = search needs

@@ -7,10 +7,10 @@ use Rattle.replay.proofs.days.put_units.Statement.{statement}
 use Rattle.replay.proofs.days.put_units.Tie as tie
 
 abbrev Inv-loop : tie.InvT-loop
-Inv-loop out₀ at day count next₀ i₀ out next i = (length out ≡ length out₀) × (next < length out)
+Inv-loop out₀ at units count next₀ i₀ out next i = (length out ≡ length out₀) × (next < length out)
 
 abbrev μ-loop : tie.MeasureT-loop
-μ-loop out₀ at day count next₀ i₀ out next i = count - i
+μ-loop out₀ at units count next₀ i₀ out next i = count - i
 
 kept-requires : tie.Need-kept-requires Inv-loop μ-loop
 kept-requires c κs = search needs

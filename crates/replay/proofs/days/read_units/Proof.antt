@@ -6,19 +6,19 @@ use Rattle.replay.proofs.days.read_units.Statement.{statement}
 use Rattle.replay.proofs.days.read_units.Tie as tie
 
 abbrev Inv-loop : tie.InvT-loop
-Inv-loop text day₀ at₀ day at = Unit {0}
+Inv-loop hour text units₀ at₀ units at = Unit {0}
 
 abbrev μ-loop : tie.MeasureT-loop
-μ-loop text day₀ at₀ day at = length text - at
-
-of-hour-requires : tie.Need-of-hour-requires Inv-loop μ-loop
-of-hour-requires c κs = search needs
+μ-loop hour text units₀ at₀ units at = length text - at
 
 unreadable-requires : tie.Need-unreadable-requires Inv-loop μ-loop
 unreadable-requires c κs = search needs
 
 returns : tie.Need-returns Inv-loop μ-loop
 returns c = search needs
+
+none-requires : tie.Need-none-requires Inv-loop μ-loop
+none-requires c κs = search needs
 
 returns-2 : tie.Need-returns-2 Inv-loop μ-loop
 returns-2 c = search needs
@@ -92,9 +92,9 @@ read-units-spec =
     (tie.spec
     Inv-loop
     μ-loop
-    of-hour-requires
     unreadable-requires
     returns
+    none-requires
     returns-2
     loop-holds
     add-start

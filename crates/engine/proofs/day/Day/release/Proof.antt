@@ -2,7 +2,7 @@
 use mathlib.Core.Path.{sym, _∙_}
 use native.Mathlib.Omega.{arith}
 use borrow.Author.Needs.{needs}
-use Rattle.engine.proofs.FormingLaws.{formed-few}
+use Rattle.engine.proofs.FormingLaws.{few-units}
 use Rattle.engine.proofs.ReleaseLaws.{releases, refuses-23, refuses-24}
 use Rattle.engine.proofs.day.Day.release.Statement.{statement}
 use Rattle.engine.proofs.day.Day.release.Tie as tie
@@ -11,12 +11,12 @@ is-formed-requires : tie.Need-is-formed-requires
 is-formed-requires c κs = search needs
 
 place-of-requires : tie.Need-place-of-requires
-place-of-requires c κs = formed-few _ (sym (c .before .is-formed .ensures) ∙ c .if1 .taken)
+place-of-requires c κs = few-units _ (sym (c .before .is-formed .ensures) ∙ c .if1 .taken)
 
 without-place-requires : tie.Need-without-place-requires
 without-place-requires c κs =
     let tested = c .before .before .before in
-    (formed-few _ (sym (tested .before .is-formed .ensures) ∙ tested .if1 .taken), omega arith)
+    (few-units _ (sym (tested .before .is-formed .ensures) ∙ tested .if1 .taken), omega arith)
 
 refused-requires : tie.Need-refused-requires
 refused-requires c κs = search needs
@@ -28,7 +28,7 @@ returns : tie.Need-returns
 returns c =
     let placed = c .before .before .before in
     let tested = placed .before in
-    releases _ _ _ (placed .place-of .result) (sym (tested .before .is-formed .ensures) ∙ tested .if1 .taken) (placed .place-of .ensures) (omega arith) (c .without-place .ensures .0) (c .without-place .ensures .1)
+    releases _ _ _ (placed .place-of .result) (sym (tested .before .is-formed .ensures) ∙ tested .if1 .taken) (placed .place-of .ensures) (omega arith) (c .without-place .ensures)
 
 returns-2 : tie.Need-returns-2
 returns-2 c =

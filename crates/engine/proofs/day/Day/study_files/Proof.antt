@@ -1,6 +1,7 @@
 -- The files first. Assumes nothing.
 use native.Mathlib.Omega.{arith}
 use Rattle.filing.proofs.Rooms.{constraint-room, supply-room, schedules-room}
+use Rattle.engine.proofs.FormingLaws.{formed-units}
 use Rattle.engine.proofs.StudyCells.{was-filed, was-refused, filed-market, filed-schedules, filed-units, filed-rows}
 use Rattle.engine.proofs.StudyLaws.{not-filed, files-answered}
 use borrow.Author.Needs.{needs}
@@ -47,7 +48,7 @@ study-rows-requires : tie.Need-study-rows-requires
 study-rows-requires c κs =
     let files = c .before .before .before .before .before .before .before .before .before .before .before .before .file .ensures in
     let told = c .before .before .before .before .before .before .filed2 .given .1 in
-    (c .before .before .before .before .before .before .before .before .before .before .before .before .before .before .before .before .before .before .before .before .before .pre, (filed-market _ _ _ _ _ _ _ files _ told (omega arith) (omega arith), (filed-schedules _ _ _ _ _ _ _ files _ told (omega arith), filed-units _ _ _ _ _ _ _ files _ told (omega arith))))
+    (formed-units _ (c .before .before .before .before .before .before .before .before .before .before .before .before .before .before .before .before .before .before .before .before .before .pre), (filed-market _ _ _ _ _ _ _ files _ told (omega arith) (omega arith), (filed-schedules _ _ _ _ _ _ _ files _ told (omega arith), filed-units _ _ _ _ _ _ _ files _ told (omega arith))))
 
 returns : tie.Need-returns
 returns c = not-filed _ _ _ _ _ (c .before .before .before .before .before .before .before .before .before .before .before .before .before .before .before .before .before .pre) _ (was-refused _ _ _ (c .before .before .before .before .before .before .before .before .file .ensures .answers) _ (c .before .before .filed .given .1)) _ (c .refuse-study .ensures)

@@ -1,0 +1,5 @@
+pub mod AskingLaws
+pub mod CommitLaws
+pub mod FormingLaws
+pub mod PlaceLaws
+pub mod ViewLaws

@@ -1,0 +1,90 @@
+-- The units one after the other. Assumes nothing.
+use Prim.Native.Nat.{_≤_, _-_}
+use mathlib.Core.Path.{_≡_, refl, sym, _∙_}
+use native.Mathlib.Omega.{arith}
+use borrow.Author.Needs.{needs}
+use lib.ListN.{length, drop}
+use Rattle.judge.specs.Day.{risingInRange}
+use Rattle.running.specs.View.{firstUnits, unitsOf}
+use Rattle.running.proofs.ViewLaws.{unused, first-next, first-end, mapped}
+use Rattle.running.proofs.FormingLaws.{falls, strays, rises, risen}
+use Rattle.running.proofs.units.Units.units_rise.Statement.{statement}
+use Rattle.running.proofs.units.Units.units_rise.Tie as tie
+
+abbrev Inv-loop : tie.InvT-loop
+Inv-loop self count last₀ i₀ last i =
+    (i ≤ count)
+    × (count ≡ self .count)
+    × (risingInRange 0 (unitsOf self) ≡ risingInRange last (drop i (firstUnits (self .count) (self .running))))
+
+abbrev μ-loop : tie.MeasureT-loop
+μ-loop self count last₀ i₀ last i = count - i
+
+loop-holds : tie.Need-loop-holds Inv-loop μ-loop
+unfolding unitsOf
+loop-holds c = (omega arith, refl, refl)
+
+mul-r : tie.Need-mul-r Inv-loop μ-loop
+mul-r c = search needs
+
+element-copy-out-r : tie.Need-element-copy-out-r Inv-loop μ-loop
+element-copy-out-r c = search needs
+
+returns : tie.Need-returns Inv-loop μ-loop
+returns c =
+    let self = c .before .before .before .before .before .args .t1 in
+    let loop = c .before .before .before .before .loop in
+    let places : length (self .running) ≡ 64 = search (needs, mapped) in
+    let next = first-next unused (self .count) (self .running) (loop .i) (omega arith) (omega arith) in
+    sym (loop .inv .2 ∙ rw next (falls _ _ _ (omega arith)))
+
+unit-in-range-requires : tie.Need-unit-in-range-requires Inv-loop μ-loop
+unit-in-range-requires c κs = tt
+
+returns-2 : tie.Need-returns-2 Inv-loop μ-loop
+returns-2 c =
+    let self = c .before .before .before .before .before .before .before .args .t1 in
+    let loop = c .before .before .before .before .before .before .loop in
+    let places : length (self .running) ≡ 64 = search (needs, mapped) in
+    let next = first-next unused (self .count) (self .running) (loop .i) (omega arith) (omega arith) in
+    sym (loop .inv .2 ∙ rw next (strays _ _ _ (omega arith) (sym (c .before .unit-in-range .ensures) ∙ c .if2 .left)))
+
+add-i : tie.Need-add-i Inv-loop μ-loop
+add-i c = search needs
+
+loop-less : tie.Need-loop-less Inv-loop μ-loop
+loop-less c = omega arith
+
+loop-again : tie.Need-loop-again Inv-loop μ-loop
+loop-again c =
+    let self = c .before .before .before .before .before .before .before .args .t1 in
+    let loop = c .before .before .before .before .before .before .loop in
+    let places : length (self .running) ≡ 64 = search (needs, mapped) in
+    let next = first-next unused (self .count) (self .running) (loop .i) (omega arith) (omega arith) in (
+      omega arith,
+      refl,
+      loop .inv .2 ∙ rw next (rises _ _ _ (omega arith) (sym (c .before .unit-in-range .ensures) ∙ c .if2 .taken)),
+    )
+
+returns-3 : tie.Need-returns-3 Inv-loop μ-loop
+returns-3 c =
+    let self = c .before .before .args .t1 in
+    let loop = c .before .loop in
+    sym (loop .inv .2 ∙ rw (first-end (self .count) (self .running) (loop .i) (omega arith)) (risen _))
+
+pub units-rise-spec : {M : Type 1} → statement M
+units-rise-spec =
+    tie.close
+    (tie.spec
+    Inv-loop
+    μ-loop
+    loop-holds
+    mul-r
+    element-copy-out-r
+    returns
+    unit-in-range-requires
+    returns-2
+    add-i
+    loop-less
+    loop-again
+    returns-3)

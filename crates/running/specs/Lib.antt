@@ -1,0 +1,5 @@
+pub mod Asking
+pub mod Committing
+pub mod Forming
+pub mod Places
+pub mod View

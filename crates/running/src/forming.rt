@@ -1,0 +1,67 @@
+// Whether running units are well-formed. Assumes nothing of them.
+ghost use mathlib.Core.Path.{_≡_};
+ghost use Prim.Native.Nat.{_≤_};
+ghost use Rattle.judge.specs.Day.{mostRunning, unitInRange, risingInRange};
+ghost use Rattle.running.specs.Forming.{unitsFormed};
+ghost use Rattle.running.specs.View.{unitOf, unitsOf};
+use crate::units::Running;
+use crate::units::Units;
+
+// The permitted ranges of a unit's numbers.
+const FIRST_UNIT: u64 = 1;
+
+const LAST_UNIT: u64 = 9999;
+
+const FIRST_SCHEDULE: u64 = 1;
+
+const LAST_SCHEDULE: u64 = 99;
+
+impl Units {
+    // Whether the units are well-formed.
+    pub fn is_formed(self) -> bool
+        ensures { λ r. ⌜ r ≡ unitsFormed (unitsOf self) ⌝ }
+    {
+        if self.count > Units::MOST {
+            return false;
+        }
+        self.units_rise()
+    }
+
+    // Whether the units are in range and strictly rise.
+    fn units_rise(self) -> bool
+        requires { ⌜ self .count ≤ mostRunning ⌝ }
+        ensures { λ r. ⌜ r ≡ risingInRange 0 (unitsOf self) ⌝ }
+    {
+        let count = self.count;
+        let mut last = 0;
+        let mut i = 0;
+        while i < count {
+            let r = self.running[i];
+            if r.unit <= last {
+                return false;
+            }
+            if unit_in_range(r) {
+                last = r.unit;
+            } else {
+                return false;
+            }
+            i += 1;
+        }
+        true
+    }
+}
+
+fn unit_in_range(r: Running) -> bool
+    ensures { λ t. ⌜ t ≡ unitInRange (unitOf r) ⌝ }
+{
+    if r.unit < FIRST_UNIT {
+        return false;
+    }
+    if LAST_UNIT < r.unit {
+        return false;
+    }
+    if r.schedule < FIRST_SCHEDULE {
+        return false;
+    }
+    r.schedule <= LAST_SCHEDULE
+}

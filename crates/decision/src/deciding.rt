@@ -8,8 +8,10 @@ ghost use Rattle.links.specs.Links.{Linked, unitKeys, unitKey};
 ghost use Rattle.schedules.specs.Schedules.{own as Schedules·own};
 ghost use Rattle.commitment.specs.Ranges.{UnitRows};
 ghost use Rattle.judge.specs.Answer.{answerWidth};
+ghost use Rattle.judge.specs.Day.{mostRunning};
+ghost use Rattle.running.specs.View.{unitsOf};
 ghost use Rattle.decision.specs.Standing.{Stands, MarketCells};
-ghost use Rattle.decision.specs.Deciding.{rowFrom, rowCells, Decides, UnitDecided, UnitCells};
+ghost use Rattle.decision.specs.Deciding.{rowFrom, rowCells, Decides, UnitDecided, UnitCells, UnitsOf, DecidesRows};
 use crate::choosing::choose_unit;
 use crate::choosing::lacks_cost;
 use crate::standing::HOUR;
@@ -20,6 +22,7 @@ use crate::testing::test_unit;
 use choice::Choice;
 use gathering::gather;
 use links::UNIT_LINKS;
+use running::Units;
 use schedules::link_units;
 use tables::Kind;
 
@@ -43,8 +46,32 @@ pub enum Decided {
     Costless(u64),
 }
 
-// Decides the first `k` units, each by the cell of the day's kind for it, and lays down their rows.
+// Decides the first `k` units of a day with these units running, and lays down their rows.
 pub fn decide(
+    constraint: &[u64],
+    supply: &[u64],
+    n: usize,
+    schedules: &[u64],
+    m: usize,
+    units: &[u64],
+    running: Units,
+    k: usize,
+    rows: &mut [u64],
+) -> Decided
+    requires { ⌜ MarketCells (now constraint) n (now supply) ⌝ }
+    requires { ⌜ UnitRows m (now schedules) ⌝ }
+    requires { ⌜ UnitsOf k (supplyRows n (now supply)) (now units) ⌝ }
+    requires { ⌜ running .count ≤ mostRunning ⌝ }
+    requires { ⌜ k * answerWidth ≤ length (now rows) ⌝ }
+    ensures { λ r. ⌜ DecidesRows (constraintRow (now (constraint .entry))) (supplyRows n (now (supply .entry))) (scheduleRows m (now (schedules .entry))) (unitsOf running) k (now (rows .exit)) r ⌝ }
+{
+    let mut kinds = [0u64; Units::MOST];
+    running.lay_kinds(units, k, &mut kinds);
+    decide_by_kinds(constraint, supply, n, schedules, m, units, &kinds, k, rows)
+}
+
+// Decides the first `k` units, each by the cell of the day's kind for it, and lays down their rows.
+fn decide_by_kinds(
     constraint: &[u64],
     supply: &[u64],
     n: usize,

@@ -1,19 +1,16 @@
--- From files that filing accepts, and the cells that it laid down, to what deciding their rows asks; and from what deciding laid
--- down to what answering asks. Assumes nothing.
-use Prim.Native.Nat.{ℕ, zero, suc, _*_, _≤_, _<_}
+-- From files that filing accepts, and the cells that it laid down, to what deciding their rows asks; and from what was decided
+-- to what answering asks. Assumes nothing.
+use Prim.Native.Nat.{ℕ, _*_, _≤_, _<_}
 use mathlib.Core.Path.{_≡_, refl, sym, _∙_, ap}
 use mathlib.Core.Logic.{⊎-elim}
-use mathlib.Core.Bool.{Bool, true, false, cond, _||_, or-true}
+use mathlib.Core.Bool.{Bool, true, false, cond, _||_}
 use mathlib.Core.List.{List, [], _∷_, _++_, map}
 use mathlib.Core.Option.{Option, none, some}
 use native.Mathlib.Omega.{arith}
-use native.Mathlib.Nat.{le-of-suc-le-suc, not-suc-le-zero}
 use lib.Dec.{eqb}
-use lib.ListN.{length, getD, take, length-append}
-use lib.Seq.{getD-take, length-take-le}
-use borrow.Author.Tests.{eq-eqb}
+use lib.ListN.{length, take, length-append}
 use Rattle.base.specs.Rising.{among, RisingFrom, end, inserted}
-use Rattle.base.specs.Search.{any, find, All, all-none, all-more}
+use Rattle.base.specs.Search.{All, all-none, all-more}
 use Rattle.base.proofs.Elements.{all-mem}
 use Rattle.base.proofs.Tests.{either}
 use Rattle.base.proofs.RisingLaws.{inserted-rising, inserted-new, inserted-there, among-inserted}
@@ -28,21 +25,19 @@ use Rattle.filing.specs.declared.files.Sizes.{Sizes}
 use Rattle.filing.proofs.KeptLaws.{kept}
 use Rattle.filing.specs.Kept.{Kept}
 use Rattle.supply.specs.Supply.{units, suppliers, suppliersFrom, mostUnits}
-use Rattle.supply.proofs.UnitLaws.{units-rising, among-units}
+use Rattle.supply.proofs.UnitLaws.{units-rising}
 use Rattle.market.specs.Parties.{party, parties, met, metAll}
 use Rattle.pivotal.specs.Suppliers.{among as amongParties}
 use Rattle.commitment.specs.Ranges.{UnitRows}
-use Rattle.decision.specs.Deciding.{costlessBy, laidBy, Decides, UnitCells}
+use Rattle.decision.specs.Deciding.{UnitsOf, DecidesRows}
 use Rattle.decision.specs.Standing.{MarketCells}
 use Rattle.decision.specs.declared.deciding.Decided.{Decided}
 use Rattle.decision.specs.declared.deciding.Decided.the-variants.{All as AllDecided, Costless}
-use Rattle.decision.proofs.DecidedRows.{kindCells, costless-units, rows-units}
 use Rattle.answer.proofs.StudyLetters.{decided-lettered}
-use Rattle.judge.specs.Answer.{AnswerRow, answerRows}
-use Rattle.judge.specs.Day.{RunningUnit, kindRunning}
-use Rattle.judge.specs.Decision.{ofUnit, decidedRow, decided, costless}
-use Rattle.running.specs.Asking.{KindsLaid}
-use Rattle.engine.specs.Studying.{UnitsOf, RowsDecided}
+use Rattle.judge.specs.Answer.{AnswerRow}
+use Rattle.judge.specs.Day.{RunningUnit}
+use Rattle.judge.specs.Decision.{decidedRow, decided, costless}
+use Rattle.engine.specs.Studying.{RowsDecided}
 
 -- as many parties as suppliers, since a row counts for its supplier
 or-swap : (a b c : Bool) → (a || (b || c)) ≡ (b || (a || c))
@@ -173,19 +168,6 @@ module _ (c s h constraint supply schedules us : List ℕ) {r : Filed} (files : 
       let cells = files .kept ok in
       rw sized (cells .constraint-kept, cells .rows-kept .supply-kept .rows, cells .rows-kept .schedules-kept)
 
-among-getD : (l : List ℕ) (i : ℕ) → i < length l → among (getD l i 0) l ≡ true
-unfolding among
-among-getD [] i h = absurd (not-suc-le-zero h)
-among-getD (x ∷ l) zero h = rw (eq-eqb x x refl)
-among-getD (x ∷ l) (suc i) h = rw (among-getD l i (le-of-suc-le-suc h)) (or-true (eqb (getD l i 0) x))
-
--- the units of supply are such, by their places
-units-any : (us : List ℕ) (rows : List SupplyRow) (k i : ℕ) → take k us ≡ units rows → i < k → k ≤ length us → any (ofUnit (getD us i 0)) rows ≡ true
-unfolding ofUnit
-units-any us rows k i listed h r =
-    sym (among-units (getD us i 0) rows)
-    ∙ rw (← listed, ← getD-take k us i 0 h) (among-getD (take k us) i (omega (arith, length-take-le k us r)))
-
 units-decided :
     (c : ConstraintRow) (rows : List SupplyRow) (scheduled : List ScheduleRow) (running : List RunningUnit) (us : List ℕ) →
     map (λ (a : AnswerRow). a .unit) (map (decidedRow c rows scheduled running) us) ≡ us
@@ -193,58 +175,33 @@ unfolding decidedRow
 units-decided c rows scheduled running [] = refl
 units-decided c rows scheduled running (u ∷ us) = ap (λ (l : List ℕ). u ∷ l) (units-decided c rows scheduled running us)
 
-module _ (k : ℕ) (rows : List SupplyRow) (us : List ℕ) (of-supply : UnitsOf k rows us) where
-  pub unit-cells : (kinds out : List ℕ) → k ≤ length kinds → k * 7 ≤ length out → UnitCells k rows us kinds out
-  unit-cells kinds out a b =
-      record {
-        few = of-supply .few;
-        units-there = of-supply .there;
-        kinds-there = a;
-        room = b;
-        of-supply = λ i h. units-any us rows k i (of-supply .listed) h (of-supply .there);
-      }
+-- as deciding answered
+module _
+    (c : ConstraintRow) (rows : List SupplyRow) (scheduled : List ScheduleRow) (running : List RunningUnit) (k : ℕ) (new : List ℕ) {r : Decided}
+    (decides : DecidesRows c rows scheduled running k new r)
+  where
+    pub was-costless : {u : ℕ} → r ≡ Costless u → costless (c .hour) rows scheduled running ≡ some u
+    was-costless {u} e = go (costless (c .hour) rows scheduled running) refl
+      where
+        go : (o : Option ℕ) → costless (c .hour) rows scheduled running ≡ o → costless (c .hour) rows scheduled running ≡ some u
+        go none f = let z : _≡_ {A = ℕ} 0 1 = cc (decides .answers, e, f) in absurd (omega arith)
+        go (some x) f = cc (decides .answers, e, f)
 
-  module _
-      (c : ConstraintRow) (scheduled : List ScheduleRow) (running : List RunningUnit) (old-kinds kinds old new : List ℕ) (r : Decided)
-      (laid : KindsLaid running k us old-kinds kinds)
-      (decides : Decides c rows scheduled (take k us) (take k kinds) old new r)
-    where
-      the-kinds : take k kinds ≡ kindCells c rows scheduled running (units rows)
-      the-kinds = laid .kinds ∙ rw (of-supply .listed)
+    pub was-decided : r ≡ AllDecided → costless (c .hour) rows scheduled running ≡ none
+    was-decided e = go (costless (c .hour) rows scheduled running) refl
+      where
+        go : (o : Option ℕ) → costless (c .hour) rows scheduled running ≡ o → costless (c .hour) rows scheduled running ≡ none
+        go none f = f
+        go (some x) f = let z : _≡_ {A = ℕ} 0 1 = cc (decides .answers, e, f) in absurd (omega arith)
 
-      the-costless : costlessBy c rows scheduled (take k us) (take k kinds) ≡ costless (c .hour) rows scheduled running
-      unfolding costless
-      the-costless = rw (the-kinds, of-supply .listed) (costless-units c rows scheduled running (units rows))
-
-      pub was-costless : {u : ℕ} → r ≡ Costless u → costless (c .hour) rows scheduled running ≡ some u
-      was-costless {u} e = go (costless (c .hour) rows scheduled running) refl
-        where
-          go : (o : Option ℕ) → costless (c .hour) rows scheduled running ≡ o → costless (c .hour) rows scheduled running ≡ some u
-          go none f = let z : _≡_ {A = ℕ} 0 1 = cc (decides .answers, the-costless, e, f) in absurd (omega arith)
-          go (some x) f = cc (decides .answers, the-costless, e, f)
-
-      pub was-decided : r ≡ AllDecided → costless (c .hour) rows scheduled running ≡ none
-      was-decided e = go (costless (c .hour) rows scheduled running) refl
-        where
-          go : (o : Option ℕ) → costless (c .hour) rows scheduled running ≡ o → costless (c .hour) rows scheduled running ≡ none
-          go none f = f
-          go (some x) f = let z : _≡_ {A = ℕ} 0 1 = cc (decides .answers, the-costless, e, f) in absurd (omega arith)
-
-      module _ (e : r ≡ AllDecided) where
-        pub rows-decided : answerRows k new ≡ decided c rows scheduled running
-        unfolding decided
-        rows-decided =
-            rw (decides .laid (the-costless ∙ was-decided e), the-kinds, of-supply .listed, of-supply .counted)
-            (rows-units c rows scheduled running (units rows) old)
-
-        pub decided-rows : k * 7 ≤ length new → RowsDecided k us new
-        unfolding decided
-        decided-rows room =
-            record {
-              few = of-supply .few;
-              units-there = of-supply .there;
-              rows-there = room;
-              lettered = rw rows-decided (decided-lettered c rows scheduled running);
-              by-unit = rw (rows-decided, of-supply .listed) (units-decided c rows scheduled running (units rows));
-              rising = rw (of-supply .listed) (of-supply .rising);
-            }
+    pub decided-rows : (us : List ℕ) → UnitsOf k rows us → k * 7 ≤ length new → r ≡ AllDecided → RowsDecided k us new
+    unfolding decided
+    decided-rows us of-supply room e =
+        record {
+          few = of-supply .few;
+          units-there = of-supply .there;
+          rows-there = room;
+          lettered = rw (decides .rows e) (decided-lettered c rows scheduled running);
+          by-unit = rw (decides .rows e, of-supply .listed) (units-decided c rows scheduled running (units rows));
+          rising = rw (of-supply .listed) (of-supply .rising);
+        }

@@ -9,7 +9,7 @@ use Rattle.base.specs.Rising.{RisingFrom}
 use Rattle.base.specs.Search.{All, firstOf}
 use Rattle.tables.specs.Rows.{ConstraintRow, SupplyRow, ScheduleRow}
 use Rattle.tables.specs.declared.files.Refusal.{Refusal}
-use Rattle.supply.specs.Supply.{mostUnits, units}
+use Rattle.supply.specs.Supply.{mostUnits}
 use Rattle.answer.specs.Rows.{Lettered}
 use Rattle.judge.specs.Answer.{AnswerRow, answerText, answerRows, answerWidth}
 use Rattle.judge.specs.Day.{DayView}
@@ -58,14 +58,6 @@ rowsStudied d c supply scheduled buffer =
 
 unfoldable pub decidedStudied : DayView → ℕ → List ℕ → List AnswerRow → List ℕ → Outcome
 decidedStudied d h us rows buffer = outcome d h rows buffer (firstOf (crowding d us ∷ cramped rows (length buffer) ∷ []))
-
--- a run that begins with the k units of supply
-pub record UnitsOf (k : ℕ) (supply : List SupplyRow) (run : List ℕ) : Type 0 where
-  pub few : k ≤ mostUnits
-  pub there : k ≤ length run
-  pub counted : k ≡ length (units supply)
-  pub listed : take k run ≡ units supply
-  pub rising : RisingFrom 0 (units supply)
 
 -- runs that begin with k units, rising, and with their k rows
 pub record RowsDecided (k : ℕ) (us rows : List ℕ) : Type 0 where

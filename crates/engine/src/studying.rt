@@ -6,6 +6,7 @@ ghost use mathlib.Core.Bool.{true};
 ghost use lib.ListN.{take};
 ghost use Rattle.tables.specs.Rows.{constraintRow, supplyRows, scheduleRows};
 ghost use Rattle.commitment.specs.Ranges.{UnitRows};
+ghost use Rattle.decision.specs.Deciding.{UnitsOf};
 ghost use Rattle.decision.specs.Standing.{MarketCells};
 ghost use Rattle.judge.specs.Answer.{answerRows, answerText};
 ghost use Rattle.judge.specs.Day.{dayFormed, stateRefused};
@@ -13,7 +14,7 @@ ghost use Rattle.judge.specs.Decision.{decided};
 ghost use Rattle.running.specs.Forming.{unitsFormed};
 ghost use Rattle.running.specs.View.{unitsOf};
 ghost use Rattle.engine.specs.View.{viewOf};
-ghost use Rattle.engine.specs.Studying.{Comes, Studies, AnswersRight, refusing, rowsStudied, decidedStudied, UnitsOf, RowsDecided};
+ghost use Rattle.engine.specs.Studying.{Comes, Studies, AnswersRight, refusing, rowsStudied, decidedStudied, RowsDecided};
 use crate::day::Day;
 use crate::day::LastHour;
 use crate::sizes::ANSWER_CELLS;
@@ -136,9 +137,7 @@ impl Day {
         if self.is_earlier(hour) {
             return self.refuse_by_state(EARLIER_HOUR);
         }
-        let mut kinds = [0u64; Day::UNITS];
         let running = self.units;
-        running.lay_kinds(units, k, &mut kinds);
         let mut rows = [0u64; ANSWER_CELLS];
         let decided = decide(
             constraint,
@@ -147,7 +146,7 @@ impl Day {
             schedules,
             m,
             units,
-            &kinds,
+            running,
             k,
             &mut rows,
         );

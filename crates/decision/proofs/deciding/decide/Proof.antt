@@ -1,56 +1,42 @@
--- The market first, then the units, by schedule rows that are linked by unit. Assumes nothing.
-use mathlib.Core.Path.{refl}
-use Rattle.links.proofs.LinkLaws.{unlinked}
+-- The cells of the day's kinds first, then the units by them. Assumes nothing.
 use native.Mathlib.Omega.{arith}
 use borrow.Author.Needs.{needs}
+use Rattle.decision.proofs.DecidedRows.{unit-cells, decides-rows}
 use Rattle.decision.proofs.deciding.decide.Statement.{statement}
 use Rattle.decision.proofs.deciding.decide.Tie as tie
 
-slice-aggregate-stand : tie.Need-slice-aggregate-stand
-slice-aggregate-stand c = refl
+slice-aggregate-lay-kinds : tie.Need-slice-aggregate-lay-kinds
+slice-aggregate-lay-kinds c = search needs
 
-slice-aggregate-stand-2 : tie.Need-slice-aggregate-stand-2
-slice-aggregate-stand-2 c = refl
+lay-kinds-requires : tie.Need-lay-kinds-requires
+lay-kinds-requires c κs =
+    let pre = c .before .before .before .before .before .before .pre .1 .1 in
+    (pre .1 .0, (pre .0 .there, pre .0 .few))
 
-stand-requires : tie.Need-stand-requires
-stand-requires c κs = search needs
+slice-aggregate-decide-by-kinds : tie.Need-slice-aggregate-decide-by-kinds
+slice-aggregate-decide-by-kinds c = search needs
 
-slice-aggregate-link-units : tie.Need-slice-aggregate-link-units
-slice-aggregate-link-units c = refl
-
-link-units-requires : tie.Need-link-units-requires
-link-units-requires c κs = let rows = c .before .before .before .before .before .before .before .before .before .before .before .before .pre .1 .0 in (rows .few, (rows .room, (omega arith, unlinked 2048)))
-
-slice-aggregate-decide-units : tie.Need-slice-aggregate-decide-units
-slice-aggregate-decide-units c = search needs
-
-slice-aggregate-decide-units-2 : tie.Need-slice-aggregate-decide-units-2
-slice-aggregate-decide-units-2 c = search needs
-
-slice-aggregate-decide-units-3 : tie.Need-slice-aggregate-decide-units-3
-slice-aggregate-decide-units-3 c = search needs
-
-decide-units-requires : tie.Need-decide-units-requires
-decide-units-requires c κs = let pre = c .before .before .before .before .before .before .before .before .before .before .before .before .before .before .before .before .before .before .pre in (pre .0, (c .before .before .before .before .before .before .before .before .before .stand .ensures, (pre .1 .0, (c .before .before .before .before .before .link-units .ensures, pre .1 .1))))
+decide-by-kinds-requires : tie.Need-decide-by-kinds-requires
+decide-by-kinds-requires c κs =
+    let pre = c .before .before .before .before .before .before .before .before .before .before .pre in
+    let units = pre .1 .1 .0 in
+    (pre .0, (pre .1 .0, unit-cells _ _ _ units _ _ (omega (arith, units .few, c .before .before .before .lay-kinds .ensures .room)) (pre .1 .1 .1 .1)))
 
 same-length : tie.Need-same-length
 same-length c = search needs
 
 returns : tie.Need-returns
-returns c = search needs
+returns c =
+    let pre = c .before .before .before .before .before .before .before .before .before .before .before .before .before .pre in
+    decides-rows _ _ _ (pre .1 .1 .0) _ _ _ _ _ _ _ _ (c .before .before .before .before .before .before .lay-kinds .ensures) (c .before .before .decide-by-kinds .ensures)
 
 pub decide-spec : {M : Type 1} → statement M
 decide-spec =
     tie.close
     (tie.spec
-    slice-aggregate-stand
-    slice-aggregate-stand-2
-    stand-requires
-    slice-aggregate-link-units
-    link-units-requires
-    slice-aggregate-decide-units
-    slice-aggregate-decide-units-2
-    slice-aggregate-decide-units-3
-    decide-units-requires
+    slice-aggregate-lay-kinds
+    lay-kinds-requires
+    slice-aggregate-decide-by-kinds
+    decide-by-kinds-requires
     same-length
     returns)

@@ -3,47 +3,33 @@
 ghost use mathlib.Core.Path.{_≡_};
 ghost use Prim.Native.Nat.{_≤_};
 ghost use lib.ListN.{length, take};
-ghost use Rattle.commitment.specs.Schedules.{kindIn};
 ghost use Rattle.judge.specs.Day.{mostRunning, kindRunning, wouldRun};
 ghost use Rattle.running.specs.Asking.{kindCell, KindsLaid, newcomers};
 ghost use Rattle.running.specs.View.{unitsOf};
 use crate::kinds::C;
 use crate::kinds::M;
 use crate::units::Units;
-use commitment::DayKind;
 use tables::Kind;
 
 // The cell of a unit that isn't running.
 const NOT_RUNNING: u64 = 0;
 
 impl Units {
-    // The kind on which a unit runs.
-    fn kind_running(self, unit: u64) -> DayKind
+    // The kind on which a unit runs, as a cell.
+    fn kind_cell(self, unit: u64) -> u64
         requires { ⌜ self .count ≤ mostRunning ⌝ }
-        ensures { λ r. ⌜ kindIn r ≡ kindRunning unit (unitsOf self) ⌝ }
+        ensures { λ r. ⌜ r ≡ kindCell (kindRunning unit (unitsOf self)) ⌝ }
     {
         let at = self.place_of(unit);
         if at < self.count {
             let r = self.running[at];
             let kind = r.kind;
             match kind {
-                Kind::M => DayKind::OnM,
-                Kind::C => DayKind::OnC,
+                Kind::M => M,
+                Kind::C => C,
             }
         } else {
-            DayKind::NotRunning
-        }
-    }
-
-    // The same as a cell.
-    fn kind_cell(self, unit: u64) -> u64
-        requires { ⌜ self .count ≤ mostRunning ⌝ }
-        ensures { λ r. ⌜ r ≡ kindCell (kindRunning unit (unitsOf self)) ⌝ }
-    {
-        match self.kind_running(unit) {
-            DayKind::NotRunning => NOT_RUNNING,
-            DayKind::OnM => M,
-            DayKind::OnC => C,
+            NOT_RUNNING
         }
     }
 

@@ -1,7 +1,6 @@
 // Whether running units are well-formed. Assumes nothing of them.
 ghost use mathlib.Core.Path.{_≡_};
-ghost use Prim.Native.Nat.{_≤_};
-ghost use Rattle.judge.specs.Day.{mostRunning, unitInRange, risingInRange};
+ghost use Rattle.judge.specs.Day.{unitInRange};
 ghost use Rattle.running.specs.Forming.{unitsFormed};
 ghost use Rattle.running.specs.View.{unitOf, unitsOf};
 use crate::units::Running;
@@ -17,22 +16,14 @@ const FIRST_SCHEDULE: u64 = 1;
 const LAST_SCHEDULE: u64 = 99;
 
 impl Units {
-    // Whether the units are well-formed.
+    // Whether the units are well-formed: no more than there are places, in range and strictly rising.
     pub fn is_formed(self) -> bool
         ensures { λ r. ⌜ r ≡ unitsFormed (unitsOf self) ⌝ }
     {
-        if self.count > Units::MOST {
+        let count = self.count;
+        if count > Units::MOST {
             return false;
         }
-        self.units_rise()
-    }
-
-    // Whether the units are in range and strictly rise.
-    fn units_rise(self) -> bool
-        requires { ⌜ self .count ≤ mostRunning ⌝ }
-        ensures { λ r. ⌜ r ≡ risingInRange 0 (unitsOf self) ⌝ }
-    {
-        let count = self.count;
         let mut last = 0;
         let mut i = 0;
         while i < count {

@@ -1,10 +1,22 @@
--- The kind on which a unit runs as a cell. Assumes nothing.
+-- The cell of the unit at the place where it is found. Assumes nothing.
+use native.Mathlib.Omega.{arith}
 use borrow.Author.Needs.{needs}
+use lib.ListN.{length}
+use mathlib.Core.Path.{_≡_, ap}
+use Rattle.running.specs.Asking.{kindCell}
+use Rattle.running.proofs.ViewLaws.{mapped}
+use Rattle.running.proofs.AskingLaws.{kind-here, kind-nowhere}
 use Rattle.running.proofs.units.Units.kind_cell.Statement.{statement}
 use Rattle.running.proofs.units.Units.kind_cell.Tie as tie
 
-kind-running-requires : tie.Need-kind-running-requires
-kind-running-requires c κs = search needs
+place-of-requires : tie.Need-place-of-requires
+place-of-requires c κs = search needs
+
+mul-r : tie.Need-mul-r
+mul-r c = omega arith
+
+element-copy-out-r : tie.Need-element-copy-out-r
+element-copy-out-r c = omega arith
 
 enum-told : tie.Need-enum-told
 enum-told c = search needs
@@ -12,19 +24,30 @@ enum-told c = search needs
 enum-told-2 : tie.Need-enum-told-2
 enum-told-2 c = search needs
 
-enum-told-3 : tie.Need-enum-told-3
-enum-told-3 c = search needs
-
 returns : tie.Need-returns
-returns c = rw (← c .before .before .kind-running .ensures, c .enum-told .given .1)
+returns c =
+    let self = c .before .before .before .before .before .args .t1 in
+    let places : length (self .running) ≡ 64 = search (needs, mapped) in
+    ap kindCell (kind-here self _ _ (c .before .before .before .before .place-of .ensures) (omega arith) _ (omega arith) (c .enum-told .given .1))
 
 returns-2 : tie.Need-returns-2
-returns-2 c = rw (← c .before .before .kind-running .ensures, c .enum-told2 .given .1)
+returns-2 c =
+    let self = c .before .before .before .before .before .args .t1 in
+    let places : length (self .running) ≡ 64 = search (needs, mapped) in
+    ap kindCell (kind-here self _ _ (c .before .before .before .before .place-of .ensures) (omega arith) _ (omega arith) (c .enum-told2 .given .1))
 
 returns-3 : tie.Need-returns-3
-returns-3 c = rw (← c .before .before .kind-running .ensures, c .enum-told3 .given .1)
+returns-3 c = ap kindCell (kind-nowhere (c .before .before .args .t1) _ _ (c .before .place-of .ensures) (omega arith))
 
 pub kind-cell-spec : {M : Type 1} → statement M
 kind-cell-spec =
     tie.close
-    (tie.spec kind-running-requires enum-told enum-told-2 enum-told-3 returns returns-2 returns-3)
+    (tie.spec
+    place-of-requires
+    mul-r
+    element-copy-out-r
+    enum-told
+    enum-told-2
+    returns
+    returns-2
+    returns-3)

@@ -12,10 +12,10 @@ use Rattle.tables.specs.Rows.{ConstraintRow, SupplyRow, ScheduleRow, kindOf, le
 use Rattle.tables.specs.declared.files.Kind.{Kind}
 use Rattle.schedules.specs.Schedules.{own}
 use Rattle.supply.specs.Supply.{mostUnits, units}
-use Rattle.commitment.specs.Choosing.{choice}
-use Rattle.commitment.specs.Schedules.{schedules, onCost, hasAny}
-use Rattle.commitment.specs.declared.choosing.Choice.{Choice}
-use Rattle.commitment.specs.declared.choosing.Kinds.the-variants.{OnlyC}
+use Rattle.choice.specs.Choosing.{choice}
+use Rattle.choice.specs.Schedules.{schedules, onCost, hasAny}
+use Rattle.choice.specs.declared.choosing.Choice.{Choice}
+use Rattle.choice.specs.declared.kinds.Kinds.the-variants.{OnlyC}
 use Rattle.judge.specs.Answer.{AnswerRow, answerWidth, answerRows}
 use Rattle.judge.specs.Day.{RunningUnit}
 use Rattle.judge.specs.Decision.{ofUnit, chosenOr, decided, costless}

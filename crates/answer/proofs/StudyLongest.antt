@@ -41,7 +41,7 @@ use Rattle.answer.proofs.StudyRows.{studyRow, study-all, study-count}
 
 -- what is left is what some removal leaves, and that is at most what all rows supply
 module _
-    (c : ConstraintRow) (supply : List SupplyRow) (positive : 0 < c .cutoff) (needs-some : 0 < need c supply)
+    (c : ConstraintRow) (supply : List SupplyRow) (positive : 0 < c .cutoff) (needs-some : 0 < need c)
     (few : length supply ≤ table Supply .mostRows) (a : All PermittedSupply supply)
   where
     remaining-small : (q : SupplyRow) (taken : List ℕ) → remaining (c .cutoff) q taken supply ≤ table Supply .mostRows * mostSupply
@@ -57,8 +57,8 @@ module _
 
         tested : v ≢ verdictLetter U → l < 10 ^ leftDigits
         tested n =
-            let enough : need c supply ≤ eligibleSupply (c .cutoff) supply =
-            ⊎-elim (λ h. absurd (n (t .shows-U .1 h))) (λ h. h) (lt-or-ge (eligibleSupply (c .cutoff) supply) (need c supply)) in
+            let enough : need c ≤ eligibleSupply (c .cutoff) supply =
+            ⊎-elim (λ h. absurd (n (t .shows-U .1 h))) (λ h. h) (lt-or-ge (eligibleSupply (c .cutoff) supply) (need c)) in
             let (taken, r, e) = t .reached n (cleared c supply) (cleared-clears c supply positive needs-some enough) in
             omega (arith, remaining-small (cleared c supply) taken)
 

@@ -39,7 +39,7 @@ module _ (c : ConstraintRow) (supply : List SupplyRow) where
   unfolding standing
   short-stands e = simp e
 
-  cleared-stands : untested c supply ≡ false → standing c supply ≡ Cleared (clearing (c .cutoff) (need c supply) supply) (length (parties supply))
+  cleared-stands : untested c supply ≡ false → standing c supply ≡ Cleared (clearing (c .cutoff) (need c) supply) (length (parties supply))
   unfolding standing
   cleared-stands e = simp e
 
@@ -60,7 +60,7 @@ module _ (c : ConstraintRow) (supply : List SupplyRow) where
         go true f = let z : _≡_ {A = ℕ} 0 1 = cc (stands .answers, e, short-stands f) in absurd (omega arith)
         go false f =
             let counted : count ≡ length (parties supply) = cc (stands .answers, e, cleared-stands f) in
-            let clears : q ≡ clearing (c .cutoff) (need c supply) supply = cc (stands .answers, e, cleared-stands f) in
+            let clears : q ≡ clearing (c .cutoff) (need c) supply = cc (stands .answers, e, cleared-stands f) in
             (counted, record { enough = f; clears = clears; all-parties = rw counted (stands .listed f); all-amounts = rw counted (stands .added f) })
 
     -- as the parts that are lent

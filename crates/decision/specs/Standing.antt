@@ -27,7 +27,7 @@ pub record MarketCells (constraint : List ℕ) (n : ℕ) (cells : List ℕ) : Ty
 
 module _ (c : ConstraintRow) (supply : List SupplyRow) where
   unfoldable pub standing : Standing
-  standing = cond (untested c supply) Short (Cleared (clearing (c .cutoff) (need c supply) supply) (length (parties supply)))
+  standing = cond (untested c supply) Short (Cleared (clearing (c .cutoff) (need c) supply) (length (parties supply)))
 
   pub record Stands (ps amounts′ : List ℕ) (r : Standing) : Type 0 where
     pub answers : r ≡ standing

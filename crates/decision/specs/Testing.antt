@@ -24,6 +24,6 @@ module _ (c : ConstraintRow) (supply : List SupplyRow) where
   -- a market that is not short, with the place of the row that clears, its parties and their amounts
   pub record InMarket (q : ℕ) (ps amounts′ : List ℕ) : Type 0 where
     pub enough : untested c supply ≡ false
-    pub clears : q ≡ clearing (c .cutoff) (need c supply) supply
+    pub clears : q ≡ clearing (c .cutoff) (need c) supply
     pub all-parties : ps ≡ parties supply
     pub all-amounts : amounts′ ≡ amounts (c .cutoff) (cleared c supply) supply

@@ -27,7 +27,6 @@ use Rattle.filing.specs.Kept.{Kept}
 use Rattle.supply.specs.Supply.{units, suppliers, suppliersFrom, mostUnits}
 use Rattle.supply.proofs.UnitLaws.{units-rising}
 use Rattle.market.specs.Parties.{party, parties, met, metAll}
-use Rattle.pivotal.specs.Suppliers.{among as amongParties}
 use Rattle.commitment.specs.Ranges.{UnitRows}
 use Rattle.decision.specs.Deciding.{UnitsOf, DecidesRows}
 use Rattle.decision.specs.Standing.{MarketCells}
@@ -45,14 +44,14 @@ or-swap true true c = refl
 or-swap true false c = refl
 or-swap false b c = refl
 
-among-behind : (j k : ℕ) (ks : List ℕ) → amongParties j (ks ++ (k ∷ [])) ≡ (eqb j k || amongParties j ks)
-unfolding amongParties
+among-behind : (j k : ℕ) (ks : List ℕ) → among j (ks ++ (k ∷ [])) ≡ (eqb j k || among j ks)
+unfolding among
 among-behind j k [] = refl
-among-behind j k (i ∷ ks) = rw (among-behind j k ks) (or-swap (eqb j i) (eqb j k) (amongParties j ks))
+among-behind j k (i ∷ ks) = rw (among-behind j k ks) (or-swap (eqb j i) (eqb j k) (among j ks))
 
 -- parties and rising suppliers, as many and the same
 record Alike (ks ss : List ℕ) : Type 0 where
-  same : (j : ℕ) → amongParties j ks ≡ among j ss
+  same : (j : ℕ) → among j ks ≡ among j ss
   long : length ks ≡ length ss
   rising : RisingFrom 0 ss
 
@@ -60,10 +59,10 @@ one-more : (ks ss : List ℕ) (k : ℕ) → 0 < k → Alike ks ss → Alike (met
 unfolding met
 one-more ks ss k h alike = ⊎-elim there new (either (among k ss))
   where
-    there : among k ss ≡ true → Alike (cond (amongParties k ks) ks (ks ++ (k ∷ []))) (inserted k ss)
+    there : among k ss ≡ true → Alike (cond (among k ks) ks (ks ++ (k ∷ []))) (inserted k ss)
     there e = rw (alike .same k, e, inserted-there k (alike .rising) e) alike
 
-    new : among k ss ≡ false → Alike (cond (amongParties k ks) ks (ks ++ (k ∷ []))) (inserted k ss)
+    new : among k ss ≡ false → Alike (cond (among k ks) ks (ks ++ (k ∷ []))) (inserted k ss)
     new e =
         rw (alike .same k, e)
         (record {
@@ -79,7 +78,7 @@ parties-suppliers ks ss (r ∷ rows) alike (all-more p ps) =
     parties-suppliers (met ks (r .supplier)) (inserted (r .supplier) ss) rows (one-more ks ss (r .supplier) (omega (arith, p .some-supplier)) alike) ps
 
 parties-count : (rows : List SupplyRow) → All PermittedSupply rows → length (parties rows) ≡ length (suppliers rows)
-unfolding parties suppliers amongParties among
+unfolding parties suppliers among
 parties-count rows p = parties-suppliers [] [] rows (record { same = λ _. refl; long = refl; rising = end }) p
 
 some-units : (rows : List SupplyRow) → All PermittedSupply rows → All (λ (r : SupplyRow). 1 ≤ r .unit) rows

@@ -46,7 +46,7 @@ module _ (c : ConstraintRow) (rows : List SupplyRow) (u : ℕ) (p : SupplyRow �
   unfolding ofUnit
   passes-row r i t = mem-any (λ (r : SupplyRow). ofUnit u r && p r) (i .a-row) (simp (eq-eqb (r .unit) u (i .its-unit), t))
 
-module _ (c : ConstraintRow) (rows : List SupplyRow) (positive : 0 < c .cutoff) (some-need : 0 < need c rows) (u : ℕ) where
+module _ (c : ConstraintRow) (rows : List SupplyRow) (positive : 0 < c .cutoff) (some-need : 0 < need c) (u : ℕ) where
   has-eligible : hasEligible c rows u ≡ true → EligibleRow c rows u
   unfolding hasEligible
   has-eligible e =
@@ -74,7 +74,7 @@ module _ (c : ConstraintRow) (rows : List SupplyRow) (positive : 0 < c .cutoff) 
     unfolding hasRelevant
     relevant-has x =
         let d = cleared-clears c rows positive some-need (failed-tested c rows k f) in
-        let one-market = relevant-same (c .cutoff) (need c rows) rows positive (x .cleared) (cleared c rows) (x .clears) d in
+        let one-market = relevant-same (c .cutoff) (need c) rows positive (x .cleared) (cleared c rows) (x .clears) d in
         passes-row c rows u (relevant (c .cutoff) (cleared c rows)) (x .row) (x .of-the-unit) (sym (one-market (x .row)) ∙ x .is-relevant)
 
   says :

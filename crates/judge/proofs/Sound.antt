@@ -33,7 +33,7 @@ pub record Sound
 
 pub some-need :
     {c : ConstraintRow} {supply : List SupplyRow} {scheduled : List ScheduleRow} {running : List RunningUnit} →
-    Sound c supply scheduled running → 0 < need c supply
+    Sound c supply scheduled running → 0 < need c
 unfolding needOf
 some-need s = omega (arith, s .constraint .some-relief)
 

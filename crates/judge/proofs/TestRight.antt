@@ -58,37 +58,37 @@ module _ (c : ConstraintRow) (rows : List SupplyRow) (k : ℕ) (p : PartyOf rows
 
 -- what the test decides, by cases
 data Decides (c : ConstraintRow) (rows : List SupplyRow) (k : ℕ) : Verdict → ℕ → Type 0 where
-  short-of : eligibleSupply (c .cutoff) rows < need c rows → Decides c rows k U 0
-  failed : need c rows ≤ eligibleSupply (c .cutoff) rows → leftOf c rows k < need c rows → Decides c rows k F (leftOf c rows k)
-  passed : need c rows ≤ eligibleSupply (c .cutoff) rows → need c rows ≤ leftOf c rows k → Decides c rows k P (leftOf c rows k)
+  short-of : eligibleSupply (c .cutoff) rows < need c → Decides c rows k U 0
+  failed : need c ≤ eligibleSupply (c .cutoff) rows → leftOf c rows k < need c → Decides c rows k F (leftOf c rows k)
+  passed : need c ≤ eligibleSupply (c .cutoff) rows → need c ≤ leftOf c rows k → Decides c rows k P (leftOf c rows k)
 
 decides : (c : ConstraintRow) (rows : List SupplyRow) (k : ℕ) → Decides c rows k (verdictOf c rows k) (leftShown c rows k)
 unfolding verdictOf leftShown untested short pivotal
-decides c rows k = go (ltb supply (need c rows)) (ltb (leftOf c rows k) (need c rows)) refl refl
+decides c rows k = go (ltb supply (need c)) (ltb (leftOf c rows k) (need c)) refl refl
   where
     supply : ℕ
     supply = eligibleSupply (c .cutoff) rows
 
     go :
-        (t u : Bool) → ltb supply (need c rows) ≡ t → ltb (leftOf c rows k) (need c rows) ≡ u →
+        (t u : Bool) → ltb supply (need c) ≡ t → ltb (leftOf c rows k) (need c) ≡ u →
         Decides c rows k (cond t U (cond u F P)) (cond t 0 (leftOf c rows k))
     go true u e f = short-of (ltb-true _ _ e)
     go false true e f = failed (ltb-false _ _ e) (ltb-true _ _ f)
     go false false e f = passed (ltb-false _ _ e) (ltb-false _ _ f)
 
 -- the row that was found to clear clears, where eligible supply is not short of the need
-module _ (c : ConstraintRow) (rows : List SupplyRow) (positive : 0 < c .cutoff) (some-need : 0 < need c rows) where
-  pub cleared-clears : need c rows ≤ eligibleSupply (c .cutoff) rows → Clearing c rows (cleared c rows)
+module _ (c : ConstraintRow) (rows : List SupplyRow) (positive : 0 < c .cutoff) (some-need : 0 < need c) where
+  pub cleared-clears : need c ≤ eligibleSupply (c .cutoff) rows → Clearing c rows (cleared c rows)
   unfolding cleared short
   cleared-clears h =
-      let not-short = le-ltb (eligibleSupply (c .cutoff) rows) (need c rows) h in
-      clearing-clears (c .cutoff) (need c rows) rows positive some-need not-short .1
+      let not-short = le-ltb (eligibleSupply (c .cutoff) rows) (need c) h in
+      clearing-clears (c .cutoff) (need c) rows positive some-need not-short .1
 
   module _ (k : ℕ) (p : PartyOf rows k) where
     -- what the test leaves is the least that a removal leaves, by whichever clearing row
-    module _ (enough : need c rows ≤ eligibleSupply (c .cutoff) rows) (q : SupplyRow) (d : Clearing c rows q) where
+    module _ (enough : need c ≤ eligibleSupply (c .cutoff) rows) (q : SupplyRow) (d : Clearing c rows q) where
       same-left : (taken : List ℕ) → remaining (c .cutoff) q taken rows ≡ remaining (c .cutoff) (cleared c rows) taken rows
-      same-left = remaining-same (c .cutoff) (need c rows) rows positive q (cleared c rows) d (cleared-clears enough)
+      same-left = remaining-same (c .cutoff) (need c) rows positive q (cleared c rows) d (cleared-clears enough)
 
       least-by : (taken : List ℕ) → Removal c rows k taken → leftOf c rows k ≤ remaining (c .cutoff) q taken rows
       least-by taken r = rw (same-left taken) (left-least c rows k p taken r)
@@ -134,7 +134,7 @@ module _ (c : ConstraintRow) (rows : List SupplyRow) (positive : 0 < c .cutoff) 
         }
 
     -- where the test can be performed, the amount that is right is what it leaves
-    module _ (enough : need c rows ≤ eligibleSupply (c .cutoff) rows) {v l : ℕ} (t : RightTest c rows k v l) where
+    module _ (enough : need c ≤ eligibleSupply (c .cutoff) rows) {v l : ℕ} (t : RightTest c rows k v l) where
       not-U : v ≢ verdictLetter U
       not-U e = omega (arith, t .shows-U .0 e)
 
@@ -169,10 +169,10 @@ module _ (c : ConstraintRow) (rows : List SupplyRow) (positive : 0 < c .cutoff) 
 
 -- a failed party was tested
 pub failed-tested :
-    (c : ConstraintRow) (rows : List SupplyRow) (k : ℕ) → verdictOf c rows k ≡ F → need c rows ≤ eligibleSupply (c .cutoff) rows
+    (c : ConstraintRow) (rows : List SupplyRow) (k : ℕ) → verdictOf c rows k ≡ F → need c ≤ eligibleSupply (c .cutoff) rows
 failed-tested c rows k e = go (decides c rows k) e
   where
-    go : {v : Verdict} {l : ℕ} → Decides c rows k v l → v ≡ F → need c rows ≤ eligibleSupply (c .cutoff) rows
+    go : {v : Verdict} {l : ℕ} → Decides c rows k v l → v ≡ F → need c ≤ eligibleSupply (c .cutoff) rows
     go (short-of h) e = let z : _≡_ {A = ℕ} 0 1 = cc in absurd (omega arith)
     go (failed h b) e = h
     go (passed h b) e = h

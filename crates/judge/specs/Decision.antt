@@ -37,17 +37,17 @@ unitRow supply u = Option·getD (find (ofUnit u) supply) noRow
 unfoldable pub placeOf : ℕ → List ℕ → ℕ
 placeOf k ks = Option·getD (first (λ (j : ℕ). eqb j k) 0 ks) 0
 
-module _ (c : ConstraintRow) (supply : List SupplyRow) where
-  abbrev pub need : ℕ
-  need = needOf (c .relief)
+abbrev pub need : ConstraintRow → ℕ
+need c = needOf (c .relief)
 
+module _ (c : ConstraintRow) (supply : List SupplyRow) where
   -- "the test cannot be performed"
   unfoldable pub untested : Bool
-  untested = short (c .cutoff) need supply
+  untested = short (c .cutoff) (need c) supply
 
   -- the row whose cost is the clearing cost
   unfoldable pub cleared : SupplyRow
-  cleared = clearingRow (c .cutoff) need supply
+  cleared = clearingRow (c .cutoff) (need c) supply
 
   -- what the test leaves of the relevant market for the party k
   unfoldable pub leftOf : ℕ → ℕ
@@ -55,7 +55,7 @@ module _ (c : ConstraintRow) (supply : List SupplyRow) where
 
   -- "every verdict is U and left is 0", or "F when left is below the need, else P"
   unfoldable pub verdictOf : ℕ → Verdict
-  verdictOf k = cond untested U (cond (pivotal (leftOf k) need) F P)
+  verdictOf k = cond untested U (cond (pivotal (leftOf k) (need c)) F P)
 
   unfoldable pub leftShown : ℕ → ℕ
   leftShown k = cond untested 0 (leftOf k)

@@ -52,13 +52,13 @@ pub record InLayout (rs : List AnswerRow) (text : List ℕ) : Type 0 where
   pub laid-out : text ≡ answerHeader ++ body
   pub records : Lines rs body
 
-module _ (c : ConstraintRow) (supply : List SupplyRow) where
-  abbrev pub needed : ℕ
-  needed = needOf (c .relief)
+abbrev pub needed : ConstraintRow → ℕ
+needed c = needOf (c .relief)
 
+module _ (c : ConstraintRow) (supply : List SupplyRow) where
   -- a row that clears
   abbrev pub Clearing : SupplyRow → Type 0
-  Clearing q = Clears (c .cutoff) needed supply q
+  Clearing q = Clears (c .cutoff) (needed c) supply q
 
   -- "A removal takes away the row's supplier together with none, one or two other suppliers."
   abbrev pub Removal : ℕ → List ℕ → Type 0
@@ -68,10 +68,10 @@ module _ (c : ConstraintRow) (supply : List SupplyRow) where
   -- some removal leaves the relevant market less than the relief, else P. The amount left is 0 for U; otherwise some removal
   -- leaves exactly that amount, and every other removal leaves at least as much."
   pub record RightTest (k : ℕ) (verdict left : ℕ) : Type 0 where
-    pub shows-U : (verdict ≡ verdictLetter U) ↔ (eligibleSupply (c .cutoff) supply < needed)
+    pub shows-U : (verdict ≡ verdictLetter U) ↔ (eligibleSupply (c .cutoff) supply < needed c)
     pub shows-F :
         verdict ≢ verdictLetter U → (q : SupplyRow) → Clearing q →
-        (verdict ≡ verdictLetter F) ↔ ((taken : List ℕ) × Removal k taken × (remaining (c .cutoff) q taken supply < needed))
+        (verdict ≡ verdictLetter F) ↔ ((taken : List ℕ) × Removal k taken × (remaining (c .cutoff) q taken supply < needed c))
     pub else-P : verdict ≢ verdictLetter U → verdict ≢ verdictLetter F → verdict ≡ verdictLetter P
     pub nothing-left : verdict ≡ verdictLetter U → left ≡ 0
     pub reached :

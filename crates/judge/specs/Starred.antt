@@ -32,7 +32,7 @@ use Rattle.offers.specs.Offer.{capped}
 use Rattle.market.specs.Parties.{party, met, metAll, parties, relevantOf, amountOf, amounts}
 use Rattle.offers.specs.Relevant.{relevant}
 use Rattle.offers.specs.Supply.{absDfax, eligible, supply, supplyOf, offer, costBeside, atMost, below}
-use Rattle.pivotal.specs.Suppliers.{among}
+use Rattle.base.specs.Rising.{among}
 use Rattle.tables.proofs.Starred.{constraintFile, supplyFile, schedulesFile, starred·all}
 use Rattle.tables.specs.Hours.{inRun}
 use Rattle.pivotal.specs.Test.{total, begun, fed, fedAll, left, pivotal, verdictOf, tooLarge, refused, tested}

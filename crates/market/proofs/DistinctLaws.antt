@@ -11,7 +11,8 @@ use lib.ListN.{length, getD}
 use borrow.Author.Tests.{eq-eqb, ne-eqb, eqb-true, eqb-false}
 use Rattle.base.proofs.Tests.{false-true, or-fst, or-snd}
 use Rattle.base.proofs.Members.{member-at}
-use Rattle.pivotal.specs.Suppliers.{Absent, Distinct, among, staying}
+use Rattle.pivotal.specs.Suppliers.{Absent, Distinct, staying}
+use Rattle.base.specs.Rising.{among}
 
 pub among-member : {k : ℕ} {ks : List ℕ} → List·Memᴰ k ks → among k ks ≡ true
 unfolding among

@@ -12,7 +12,7 @@ use Rattle.base.specs.Writing.{Wrote}
 use Rattle.base.proofs.Writers.{wrote-front, wrote-over}
 use Rattle.base.proofs.Lists.{drop-next, drop-end}
 use Rattle.tables.specs.Rows.{SupplyRow, supplyRows}
-use Rattle.pivotal.specs.Suppliers.{among}
+use Rattle.base.specs.Rising.{among}
 use Rattle.offers.specs.Ranges.{cellsRow}
 use Rattle.market.specs.Parties.{party, met, metAll, parties}
 use Rattle.offers.proofs.CellLaws.{rows-next, rows-end}

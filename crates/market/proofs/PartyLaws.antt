@@ -26,7 +26,8 @@ use borrow.Author.Tests.{eqb-true}
 use Rattle.base.proofs.Tests.{false-true}
 use Rattle.tables.specs.Rows.{SupplyRow}
 use Rattle.pivotal.specs.Test.{total}
-use Rattle.pivotal.specs.Suppliers.{Absent, Distinct, among, staying}
+use Rattle.pivotal.specs.Suppliers.{Absent, Distinct, staying}
+use Rattle.base.specs.Rising.{among}
 use Rattle.offers.specs.Supply.{supply, supplyOf}
 use Rattle.offers.specs.Relevant.{relevant}
 use Rattle.market.specs.Parties.{party, met, metAll, parties, relevantOf, amountOf}

@@ -5,7 +5,7 @@ use mathlib.Core.Bool.{Bool, cond, _&&_}
 use mathlib.Core.List.{List, [], _∷_, _++_, map}
 use lib.Dec.{eqb}
 use Rattle.tables.specs.Rows.{SupplyRow}
-use Rattle.pivotal.specs.Suppliers.{among}
+use Rattle.base.specs.Rising.{among}
 use Rattle.offers.specs.Supply.{supplyOf}
 use Rattle.offers.specs.Relevant.{relevant}
 

@@ -6,7 +6,7 @@ use mathlib.Core.Logic.{_≢_}
 use mathlib.Core.Bool.{Bool, _&&_, not}
 use mathlib.Core.List.{List, [], _∷_, List·Memᴰ}
 use Rattle.tables.specs.Rows.{SupplyRow}
-use Rattle.pivotal.specs.Suppliers.{among}
+use Rattle.base.specs.Rising.{among}
 use Rattle.offers.specs.Supply.{supplyOf}
 use Rattle.offers.specs.Relevant.{relevant}
 use Rattle.market.specs.Parties.{party}

@@ -5,7 +5,7 @@ ghost use Prim.Native.Nat.{_<_, _≤_};
 ghost use lib.ListN.{length, take, drop};
 ghost use Rattle.base.specs.Writing.{Wrote};
 ghost use Rattle.tables.specs.Rows.{supplyRows};
-ghost use Rattle.pivotal.specs.Suppliers.{among};
+ghost use Rattle.base.specs.Rising.{among};
 ghost use Rattle.offers.specs.Ranges.{RowCells, SupplyCells, cellsRow};
 ghost use Rattle.market.specs.Parties.{party as Parties·party, met, parties as Parties·parties, amountOf};
 use crate::parts::Part;

@@ -6,7 +6,7 @@ use native.Mathlib.Omega.{arith}
 use lib.ListN.{length, length-append}
 use Rattle.tables.specs.Rows.{SupplyRow, supplyRows}
 use Rattle.tables.proofs.RowViews.{supply-length}
-use Rattle.pivotal.specs.Suppliers.{among}
+use Rattle.base.specs.Rising.{among}
 use Rattle.market.specs.Parties.{party, met, metAll, parties}
 use Rattle.offers.specs.Ranges.{SupplyCells}
 

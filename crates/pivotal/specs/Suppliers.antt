@@ -2,10 +2,11 @@
 -- by number. Assumes nothing; that these are the removals by place is shown in `proofs/Numbered`.
 use Prim.Native.Nat.{ℕ}
 use mathlib.Core.Logic.{_≢_}
-use mathlib.Core.Bool.{Bool, false, cond, _||_}
+use mathlib.Core.Bool.{cond}
 use mathlib.Core.List.{List, [], _∷_}
 use lib.Dec.{eqb}
 use lib.ListN.{getD}
+use Rattle.base.specs.Rising.{among}
 use Rattle.pivotal.specs.Removal.{Removal, alone, with-one, with-two}
 
 -- no supplier of the list is k
@@ -21,11 +22,6 @@ pub data Distinct : List ℕ → Type 0 where
 -- the values f with that of the supplier k taken away
 unfoldable pub without : (ℕ → ℕ) → ℕ → ℕ → ℕ
 without f k j = cond (eqb j k) 0 (f j)
-
--- whether the supplier k is among the suppliers js
-unfoldable pub among : ℕ → List ℕ → Bool
-among k [] = false
-among k (j ∷ js) = eqb k j || among k js
 
 -- the suppliers ks but for those among js
 unfoldable pub staying : List ℕ → List ℕ → List ℕ

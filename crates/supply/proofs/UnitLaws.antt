@@ -1,5 +1,5 @@
--- Laws of the units and the suppliers of supply rows: they rise, and a number is among them where some row has it. And of
--- the places that refusals 5 and 6 name: 0 stands for none. Assumes nothing.
+-- Laws of the units of supply rows: they rise, and a number is among them where some row has it. And of the places that
+-- refusals 5 and 6 name: 0 stands for none. Assumes nothing.
 use Prim.Native.Nat.{ℕ, suc, _≤_, _<_}
 use mathlib.Core.Path.{_≡_, refl, sym, _∙_, ap}
 use mathlib.Core.Bool.{Bool, true, false, cond, _||_, or-false}
@@ -15,7 +15,7 @@ use Rattle.base.specs.Search.{any, first, firstAtOdds, All, all-none, all-more}
 use Rattle.base.proofs.RisingLaws.{inserted-rising, among-inserted}
 use Rattle.base.proofs.Tests.{eq-or-ne}
 use Rattle.tables.specs.Rows.{SupplyRow}
-use Rattle.supply.specs.Supply.{units, unitsFrom, suppliers, suppliersFrom, crowded, crowdedFrom, supplyOdds, supplyAtOdds}
+use Rattle.supply.specs.Supply.{units, unitsFrom, crowded, crowdedFrom, supplyOdds, supplyAtOdds}
 use Rattle.supply.specs.SupplyPromises.{tooMany}
 
 units-rising-from :
@@ -27,17 +27,6 @@ units-rising-from h (all-more {x = r} p a) = units-rising-from (inserted-rising 
 pub units-rising : {rs : List SupplyRow} → All (λ (r : SupplyRow). 1 ≤ r .unit) rs → RisingFrom 0 (units rs)
 unfolding units
 units-rising a = units-rising-from end a
-
-suppliers-rising-from :
-    {ss : List ℕ} {rs : List SupplyRow} → RisingFrom 0 ss → All (λ (r : SupplyRow). 1 ≤ r .supplier) rs →
-    RisingFrom 0 (suppliersFrom ss rs)
-unfolding suppliersFrom
-suppliers-rising-from h all-none = h
-suppliers-rising-from h (all-more {x = r} p a) = suppliers-rising-from (inserted-rising (r .supplier) p h) a
-
-pub suppliers-rising : {rs : List SupplyRow} → All (λ (r : SupplyRow). 1 ≤ r .supplier) rs → RisingFrom 0 (suppliers rs)
-unfolding suppliers
-suppliers-rising a = suppliers-rising-from end a
 
 eqb-swapped : (m n : ℕ) → eqb m n ≡ eqb n m
 eqb-swapped m n =
@@ -65,19 +54,6 @@ module _ (u : ℕ) where
   pub among-units : (rs : List SupplyRow) → among u (units rs) ≡ any (λ (r : SupplyRow). eqb (r .unit) u) rs
   unfolding units among
   among-units rs = among-units-from [] rs
-
-  among-suppliers-from :
-      (ss : List ℕ) (rs : List SupplyRow) →
-      among u (suppliersFrom ss rs) ≡ (among u ss || any (λ (r : SupplyRow). eqb (r .supplier) u) rs)
-  unfolding suppliersFrom any
-  among-suppliers-from ss [] = sym (or-false (among u ss))
-  among-suppliers-from ss (r ∷ rs) =
-      among-suppliers-from (inserted (r .supplier) ss) rs
-      ∙ rw (among-inserted u (r .supplier) ss, eqb-swapped u (r .supplier)) (one-of (eqb (r .supplier) u) (among u ss) _)
-
-  pub among-suppliers : (rs : List SupplyRow) → among u (suppliers rs) ≡ any (λ (r : SupplyRow). eqb (r .supplier) u) rs
-  unfolding suppliers among
-  among-suppliers rs = among-suppliers-from [] rs
 
 -- records count from 1, so the place 0 is no record
 no-place :

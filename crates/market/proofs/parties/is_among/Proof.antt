@@ -4,7 +4,7 @@ use mathlib.Core.Path.{_≡_, refl, sym, _∙_}
 use native.Mathlib.Omega.{arith}
 use borrow.Author.Needs.{needs}
 use lib.ListN.{take, drop}
-use Rattle.pivotal.specs.Suppliers.{among}
+use Rattle.base.specs.Rising.{among}
 use Rattle.market.proofs.ListingLaws.{among-here, among-later, among-end}
 use Rattle.market.proofs.parties.is_among.Statement.{statement}
 use Rattle.market.proofs.parties.is_among.Tie as tie

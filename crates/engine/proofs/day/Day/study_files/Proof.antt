@@ -1,4 +1,5 @@
 -- The files first. Assumes nothing.
+use mathlib.Core.Path.{refl}
 use native.Mathlib.Omega.{arith}
 use Rattle.filing.proofs.Rooms.{constraint-room, supply-room, schedules-room}
 use Rattle.engine.proofs.FormingLaws.{formed-units}
@@ -9,16 +10,16 @@ use Rattle.engine.proofs.day.Day.study_files.Statement.{statement}
 use Rattle.engine.proofs.day.Day.study_files.Tie as tie
 
 slice-aggregate-file : tie.Need-slice-aggregate-file
-slice-aggregate-file c = search needs
+slice-aggregate-file c = refl
 
 slice-aggregate-file-2 : tie.Need-slice-aggregate-file-2
-slice-aggregate-file-2 c = search needs
+slice-aggregate-file-2 c = refl
 
 slice-aggregate-file-3 : tie.Need-slice-aggregate-file-3
-slice-aggregate-file-3 c = search needs
+slice-aggregate-file-3 c = refl
 
 slice-aggregate-file-4 : tie.Need-slice-aggregate-file-4
-slice-aggregate-file-4 c = search needs
+slice-aggregate-file-4 c = refl
 
 file-requires : tie.Need-file-requires
 file-requires c κs = (omega (arith, constraint-room), (omega (arith, supply-room), (omega (arith, schedules-room), omega arith)))

@@ -1,4 +1,5 @@
 -- The rows of the files: 20, 21, then decided and answered. Assumes nothing.
+use mathlib.Core.Path.{refl}
 use native.Mathlib.Omega.{arith}
 use borrow.Author.Needs.{needs}
 use Rattle.running.proofs.FormingLaws.{formed-few}
@@ -21,7 +22,7 @@ returns : tie.Need-returns
 returns c = rows-earlier _ _ _ _ _ (c .before .before .is-earlier .ensures) (c .before .if1 .taken) _ (c .refuse-by-state .ensures)
 
 slice-aggregate-decide : tie.Need-slice-aggregate-decide
-slice-aggregate-decide c = search needs
+slice-aggregate-decide c = refl
 
 decide-requires : tie.Need-decide-requires
 decide-requires c κs =

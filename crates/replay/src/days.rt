@@ -3,19 +3,19 @@
 // its first 64 units kept and all counted.
 ghost use Prim.Native.Nat.{_≤_, _<_};
 ghost use lib.ListN.{length};
-use crate::output::put_byte;
-use crate::output::put_number;
-use crate::output::put_text;
-use crate::words::after;
-use crate::words::end;
-use crate::words::first;
-use crate::words::from;
-use crate::words::is;
 use engine::Day;
 use engine::LastHour;
 use engine::Running;
 use engine::Units;
 use tables::Kind;
+use transcript::output::put_byte;
+use transcript::output::put_number;
+use transcript::output::put_text;
+use transcript::words::after;
+use transcript::words::end;
+use transcript::words::first;
+use transcript::words::from;
+use transcript::words::is;
 
 // The most units that a day is read with.
 const MOST_UNITS: usize = 1000;

@@ -1,19 +1,28 @@
-// The lines of standard input, read in large parts and answered one by one. What was read of a line
-// that isn't whole yet is held at the start of the input buffer. Assumes nothing.
-ghost use Prim.Native.Nat.{_+_, _≤_, _<_};
+// The lines of standard input, read in large parts and answered one by one: `input` as in
+// transcript, `space` for the files of a line, `buffer` for what a case lends, `out` for what is
+// printed. Assumes nothing.
+ghost use Prim.Native.Nat.{_≤_, _<_};
 ghost use lib.ListN.{length};
 use crate::cases::answer;
-use crate::output::flush;
-use crate::output::put_byte;
-use libc::STDIN_FILENO;
+use transcript::input::hold;
+use transcript::input::read_more;
+use transcript::output::flush;
+use transcript::output::put_byte;
 
 const LF: u8 = b'\n';
 
-// The least room of a buffer.
-const LEAST: usize = 2;
+// The longest line, with its end: three files of 64 KiB in hex and a day of 1,000 units take fewer
+// bytes.
+pub const LINE: usize = 524288;
 
-// No case begins with this byte.
-const NO_CASE: u8 = b'?';
+// What the files of a line have room in: two bytes of a line are one of a file.
+pub const FILES: usize = 262144;
+
+// The longest buffer that a case lends.
+pub const BUFFER: usize = 4096;
+
+// What is printed in one call.
+pub const OUTPUT: usize = 65536;
 
 // Whether the input has ended, and if not how much is held.
 struct Turn {
@@ -21,40 +30,25 @@ struct Turn {
     held: usize,
 }
 
-// Answers every line, if the buffers have room for a few bytes.
+// Answers every line.
 pub fn run(
-    input: &mut [u8],
-    constraint: &mut [u8],
-    supply: &mut [u8],
-    schedules: &mut [u8],
-    buffer: &mut [u8],
-    out: &mut [u8],
+    input: &mut [u8; LINE],
+    space: &mut [u8; FILES],
+    buffer: &mut [u8; BUFFER],
+    out: &mut [u8; OUTPUT],
 ) {
-    if input.len() < LEAST {
-        return;
-    }
-    if out.len() < LEAST {
-        return;
-    }
-    answer_all(input, constraint, supply, schedules, buffer, out);
+    answer_all(input, space, buffer, out);
 }
 
 // The same. The turns are counted down because a loop has to end; no input uses them up.
-fn answer_all(
-    input: &mut [u8],
-    constraint: &mut [u8],
-    supply: &mut [u8],
-    schedules: &mut [u8],
-    buffer: &mut [u8],
-    out: &mut [u8],
-)
+fn answer_all(input: &mut [u8], space: &mut [u8], buffer: &mut [u8], out: &mut [u8])
     requires { ⌜ 1 < length (now input) ⌝ }
     requires { ⌜ 0 < length (now out) ⌝ }
 {
     let mut held = 0;
     let mut turns = u64::MAX;
     while 0 < turns {
-        let turn = answer_part(input, held, constraint, supply, schedules, buffer, out);
+        let turn = answer_part(input, held, space, buffer, out);
         if turn.is_ended {
             return;
         }
@@ -67,9 +61,7 @@ fn answer_all(
 fn answer_part(
     input: &mut [u8],
     held: usize,
-    constraint: &mut [u8],
-    supply: &mut [u8],
-    schedules: &mut [u8],
+    space: &mut [u8],
     buffer: &mut [u8],
     out: &mut [u8],
 ) -> Turn
@@ -80,80 +72,50 @@ fn answer_part(
 {
     let whole = read_more(input, held);
     if whole == held {
-        answer_rest(&input[0..held], constraint, supply, schedules, buffer, out);
+        answer_rest(input, held, space, buffer, out);
         return Turn {
             is_ended: true,
             held: 0,
         };
     }
-    let done = answer_lines(&input[0..whole], constraint, supply, schedules, buffer, out);
+    let done = answer_lines(input, whole, space, buffer, out);
     Turn {
         is_ended: false,
         held: hold(input, done, whole),
     }
 }
 
-// Answers a last line that lacks its end.
-fn answer_rest(
-    line: &[u8],
-    constraint: &mut [u8],
-    supply: &mut [u8],
-    schedules: &mut [u8],
-    buffer: &mut [u8],
-    out: &mut [u8],
-)
+// Answers a last line, of `held` bytes, that lacks its end.
+fn answer_rest(input: &[u8], held: usize, space: &mut [u8], buffer: &mut [u8], out: &mut [u8])
+    requires { ⌜ held ≤ length (now input) ⌝ }
     requires { ⌜ 0 < length (now out) ⌝ }
 {
-    if 0 < line.len() {
-        let at = answer_line(line, constraint, supply, schedules, buffer, out, 0);
+    if 0 < held {
+        let at = answer_line(&input[0..held], space, buffer, out, 0);
         flush(out, at);
     }
 }
 
-// Reads behind the bytes that are held, and answers how many there are then.
-fn read_more(input: &mut [u8], held: usize) -> usize
-    requires { ⌜ held ≤ length (now input) ⌝ }
-    ensures { λ r. ⌜ held ≤ r ⌝ }
-    ensures { λ r. ⌜ r ≤ length (now (input .exit)) ⌝ }
-{
-    held + read_part(&mut input[held..])
-}
-
-fn read_part(part: &mut [u8]) -> usize
-    ensures { λ r. ⌜ r ≤ length (now (part .exit)) ⌝ }
-{
-    let got = libc::read(STDIN_FILENO, part);
-    io::count(got, part)
-}
-
-// Answers the lines that are whole, and answers where the next begins.
+// Answers the lines that are whole in the first `end` bytes, and answers where the next begins.
 fn answer_lines(
     input: &[u8],
-    constraint: &mut [u8],
-    supply: &mut [u8],
-    schedules: &mut [u8],
+    end: usize,
+    space: &mut [u8],
     buffer: &mut [u8],
     out: &mut [u8],
 ) -> usize
+    requires { ⌜ end ≤ length (now input) ⌝ }
     requires { ⌜ 0 < length (now out) ⌝ }
-    ensures { λ r. ⌜ r ≤ length (now (input .entry)) ⌝ }
+    ensures { λ r. ⌜ r ≤ end ⌝ }
 {
     let mut at = 0;
     let mut start = 0;
-    while start < input.len() {
-        let e = bytes::scan::find(input, start, input.len(), LF);
-        if e == input.len() {
+    while start < end {
+        let e = bytes::scan::find(input, start, end, LF);
+        if e == end {
             break;
         }
-        at = answer_line(
-            &input[start..e],
-            constraint,
-            supply,
-            schedules,
-            buffer,
-            out,
-            at,
-        );
+        at = answer_line(&input[start..e], space, buffer, out, at);
         start = e + 1;
     }
     flush(out, at);
@@ -161,39 +123,10 @@ fn answer_lines(
 }
 
 // Answers a line, and ends the answer's.
-fn answer_line(
-    line: &[u8],
-    constraint: &mut [u8],
-    supply: &mut [u8],
-    schedules: &mut [u8],
-    buffer: &mut [u8],
-    out: &mut [u8],
-    at: usize,
-) -> usize
+fn answer_line(line: &[u8], space: &mut [u8], buffer: &mut [u8], out: &mut [u8], at: usize) -> usize
     requires { ⌜ at < length (now out) ⌝ }
     ensures { λ r. ⌜ r < length (now (out .exit)) ⌝ }
 {
-    let next = answer(line, constraint, supply, schedules, buffer, out, at);
+    let next = answer(line, space, buffer, out, at);
     put_byte(LF, out, next)
-}
-
-// Moves what isn't answered yet to the start of the buffer, and answers how much is held. Of a line
-// that fills the buffer one byte is held, with which the whole line can't be read.
-fn hold(input: &mut [u8], start: usize, whole: usize) -> usize
-    requires { ⌜ 1 < length (now input) ⌝ }
-    requires { ⌜ start ≤ whole ⌝ }
-    requires { ⌜ whole ≤ length (now input) ⌝ }
-    ensures { λ r. ⌜ r < length (now (input .exit)) ⌝ }
-{
-    let held = whole - start;
-    if held == input.len() {
-        input[0] = NO_CASE;
-        return 1;
-    }
-    let mut i = 0;
-    while i < held {
-        input[i] = input[start + i];
-        i += 1;
-    }
-    held
 }

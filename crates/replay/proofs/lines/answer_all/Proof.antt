@@ -1,18 +1,17 @@
 -- The parts of the input; the turns are counted down. Assumes nothing.
 use mathlib.Core.Path.{_≡_}
 use Prim.Native.Nat.{_<_}
-use borrow.Author.Needs.{needs}
 use lib.ListN.{length}
+use borrow.Author.Needs.{needs}
 use Rattle.replay.proofs.lines.answer_all.Statement.{statement}
 use Rattle.replay.proofs.lines.answer_all.Tie as tie
 
 abbrev Inv-loop : tie.InvT-loop
-Inv-loop input₀ constraint₀ supply₀ schedules₀ buffer₀ out₀ held₀ turns₀ input constraint supply schedules buffer out held turns =
-    (length input ≡ length input₀) × ((length constraint ≡ length constraint₀) × ((length supply ≡ length supply₀) × ((length schedules ≡ length schedules₀) × ((length buffer ≡ length buffer₀) × ((length out ≡ length out₀) × (held < length input))))))
+Inv-loop input₀ space₀ buffer₀ out₀ held₀ turns₀ input space buffer out held turns =
+    (length input ≡ length input₀) × ((length space ≡ length space₀) × ((length buffer ≡ length buffer₀) × ((length out ≡ length out₀) × (held < length input))))
 
 abbrev μ-loop : tie.MeasureT-loop
-μ-loop input₀ constraint₀ supply₀ schedules₀ buffer₀ out₀ held₀ turns₀ input constraint supply schedules buffer out held turns =
-    turns
+μ-loop input₀ space₀ buffer₀ out₀ held₀ turns₀ input space buffer out held turns = turns
 
 loop-holds : tie.Need-loop-holds Inv-loop μ-loop
 loop-holds c = search needs
@@ -32,12 +31,6 @@ same-length-3 c = search needs
 same-length-4 : tie.Need-same-length-4 Inv-loop μ-loop
 same-length-4 c = search needs
 
-same-length-5 : tie.Need-same-length-5 Inv-loop μ-loop
-same-length-5 c = search needs
-
-same-length-6 : tie.Need-same-length-6 Inv-loop μ-loop
-same-length-6 c = search needs
-
 returns : tie.Need-returns Inv-loop μ-loop
 returns c = search needs
 
@@ -50,23 +43,17 @@ loop-less c = search needs
 loop-again : tie.Need-loop-again Inv-loop μ-loop
 loop-again c = search needs
 
+same-length-5 : tie.Need-same-length-5 Inv-loop μ-loop
+same-length-5 c = search needs
+
+same-length-6 : tie.Need-same-length-6 Inv-loop μ-loop
+same-length-6 c = search needs
+
 same-length-7 : tie.Need-same-length-7 Inv-loop μ-loop
 same-length-7 c = search needs
 
 same-length-8 : tie.Need-same-length-8 Inv-loop μ-loop
 same-length-8 c = search needs
-
-same-length-9 : tie.Need-same-length-9 Inv-loop μ-loop
-same-length-9 c = search needs
-
-same-length-10 : tie.Need-same-length-10 Inv-loop μ-loop
-same-length-10 c = search needs
-
-same-length-11 : tie.Need-same-length-11 Inv-loop μ-loop
-same-length-11 c = search needs
-
-same-length-12 : tie.Need-same-length-12 Inv-loop μ-loop
-same-length-12 c = search needs
 
 returns-2 : tie.Need-returns-2 Inv-loop μ-loop
 returns-2 c = search needs
@@ -83,16 +70,12 @@ answer-all-spec =
     same-length-2
     same-length-3
     same-length-4
-    same-length-5
-    same-length-6
     returns
     sub-turns
     loop-less
     loop-again
+    same-length-5
+    same-length-6
     same-length-7
     same-length-8
-    same-length-9
-    same-length-10
-    same-length-11
-    same-length-12
     returns-2)

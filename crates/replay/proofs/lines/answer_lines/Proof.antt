@@ -1,18 +1,17 @@
 -- The whole lines; a place is left in the output. Assumes nothing.
 use mathlib.Core.Path.{_≡_}
 use Prim.Native.Nat.{_-_, _<_, _≤_}
-use borrow.Author.Needs.{needs}
 use lib.ListN.{length}
+use borrow.Author.Needs.{needs}
 use Rattle.replay.proofs.lines.answer_lines.Statement.{statement}
 use Rattle.replay.proofs.lines.answer_lines.Tie as tie
 
 abbrev Inv-loop : tie.InvT-loop
-Inv-loop input constraint₀ supply₀ schedules₀ buffer₀ out₀ at₀ start₀ constraint supply schedules buffer out at start =
-    (length constraint ≡ length constraint₀) × ((length supply ≡ length supply₀) × ((length schedules ≡ length schedules₀) × ((length buffer ≡ length buffer₀) × ((length out ≡ length out₀) × ((at < length out) × (start ≤ length input))))))
+Inv-loop input end space₀ buffer₀ out₀ at₀ start₀ space buffer out at start =
+    (length space ≡ length space₀) × ((length buffer ≡ length buffer₀) × ((length out ≡ length out₀) × ((at < length out) × (start ≤ end))))
 
 abbrev μ-loop : tie.MeasureT-loop
-μ-loop input constraint₀ supply₀ schedules₀ buffer₀ out₀ at₀ start₀ constraint supply schedules buffer out at start =
-    length input - start
+μ-loop input end space₀ buffer₀ out₀ at₀ start₀ space buffer out at start = end - start
 
 loop-holds : tie.Need-loop-holds Inv-loop μ-loop
 loop-holds c = search needs
@@ -53,12 +52,6 @@ same-length-2 c = search needs
 same-length-3 : tie.Need-same-length-3 Inv-loop μ-loop
 same-length-3 c = search needs
 
-same-length-4 : tie.Need-same-length-4 Inv-loop μ-loop
-same-length-4 c = search needs
-
-same-length-5 : tie.Need-same-length-5 Inv-loop μ-loop
-same-length-5 c = search needs
-
 returns : tie.Need-returns Inv-loop μ-loop
 returns c = search needs
 
@@ -81,6 +74,4 @@ answer-lines-spec =
     same-length
     same-length-2
     same-length-3
-    same-length-4
-    same-length-5
     returns)

@@ -75,12 +75,11 @@ fn study_from(
     if !(read.is_read & asked.is_read) {
         return put_unreadable(out, at);
     }
-    fill(buffer);
     let day = read.day;
     put_studied(study_files(day, space, asked, buffer), buffer, out, at)
 }
 
-// Studies in the bytes of the buffer that are lent.
+// Fills the buffer with the pattern, and studies in the bytes of it that are lent.
 fn study_files(day: Day, files: &[u8], asked: Lending, buffer: &mut [u8]) -> Studied
     requires { ⌜ asked .supply ≤ asked .schedules ⌝ }
     requires { ⌜ asked .schedules ≤ asked .end ⌝ }
@@ -91,6 +90,7 @@ fn study_files(day: Day, files: &[u8], asked: Lending, buffer: &mut [u8]) -> Stu
     let h = asked.schedules;
     let end = asked.end;
     let lent = asked.lent;
+    fill(buffer);
     study_lent(
         day,
         &files[0..s],

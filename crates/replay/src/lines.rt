@@ -4,12 +4,11 @@
 ghost use Prim.Native.Nat.{_≤_, _<_};
 ghost use lib.ListN.{length};
 use crate::cases::answer;
+use transcript::input::LF;
 use transcript::input::hold;
 use transcript::input::read_more;
 use transcript::output::flush;
 use transcript::output::put_byte;
-
-const LF: u8 = b'\n';
 
 // The longest line, with its end: three files of 64 KiB in hex and a day of 1,000 units take fewer
 // bytes.
@@ -24,7 +23,7 @@ pub const BUFFER: usize = 4096;
 // What is printed in one call.
 pub const OUTPUT: usize = 65536;
 
-// Whether the input has ended, and if not how much is held.
+// Whether the input has ended, and how much is held.
 struct Turn {
     is_ended: bool,
     held: usize,
@@ -70,29 +69,11 @@ fn answer_part(
     requires { ⌜ 0 < length (now out) ⌝ }
     ensures { λ r. ⌜ r .held < length (now (input .exit)) ⌝ }
 {
-    let whole = read_more(input, held);
-    if whole == held {
-        answer_rest(input, held, space, buffer, out);
-        return Turn {
-            is_ended: true,
-            held: 0,
-        };
-    }
-    let done = answer_lines(input, whole, space, buffer, out);
+    let part = read_more(input, held);
+    let done = answer_lines(input, part.end, space, buffer, out);
     Turn {
-        is_ended: false,
-        held: hold(input, done, whole),
-    }
-}
-
-// Answers a last line, of `held` bytes, that lacks its end.
-fn answer_rest(input: &[u8], held: usize, space: &mut [u8], buffer: &mut [u8], out: &mut [u8])
-    requires { ⌜ held ≤ length (now input) ⌝ }
-    requires { ⌜ 0 < length (now out) ⌝ }
-{
-    if 0 < held {
-        let at = answer_line(&input[0..held], space, buffer, out, 0);
-        flush(out, at);
+        is_ended: part.is_ended,
+        held: hold(input, done, part.end),
     }
 }
 

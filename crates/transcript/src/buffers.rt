@@ -28,7 +28,7 @@ pub fn fill(buffer: &mut [u8]) {
 }
 
 // Whether the pattern stands from a place on.
-pub fn is_kept(buffer: &[u8], start: usize) -> bool {
+fn is_kept(buffer: &[u8], start: usize) -> bool {
     let mut i = start;
     while i < buffer.len() {
         if buffer[i] != PATTERN {

@@ -4,16 +4,47 @@ ghost use Prim.Native.Nat.{_≤_, _<_};
 ghost use lib.ListN.{length};
 use libc::STDIN_FILENO;
 
+// The end of a line.
+pub const LF: u8 = b'\n';
+
 // No case begins with this byte.
 const NO_CASE: u8 = b'?';
 
-// Reads behind the bytes that are held, and answers how many there are then.
-pub fn read_more(input: &mut [u8], held: usize) -> usize
-    requires { ⌜ held ≤ length (now input) ⌝ }
-    ensures { λ r. ⌜ held ≤ r ⌝ }
+// Whether the input has ended, and where what was read ends.
+pub struct PartRead {
+    pub is_ended: bool,
+    pub end: usize,
+}
+
+// Reads behind the bytes that are held. Where nothing more comes, a line that is held gets its end.
+pub fn read_more(input: &mut [u8], held: usize) -> PartRead
+    requires { ⌜ held < length (now input) ⌝ }
+    ensures { λ r. ⌜ r .end ≤ length (now (input .exit)) ⌝ }
+{
+    let count = read_part(&mut input[held..]);
+    if 0 < count {
+        PartRead {
+            is_ended: false,
+            end: held + count,
+        }
+    } else {
+        PartRead {
+            is_ended: true,
+            end: end_line(input, held),
+        }
+    }
+}
+
+// Ends a line of the first `held` bytes, if there are any.
+fn end_line(input: &mut [u8], held: usize) -> usize
+    requires { ⌜ held < length (now input) ⌝ }
     ensures { λ r. ⌜ r ≤ length (now (input .exit)) ⌝ }
 {
-    held + read_part(&mut input[held..])
+    if held == 0 {
+        return 0;
+    }
+    input[held] = LF;
+    held + 1
 }
 
 fn read_part(part: &mut [u8]) -> usize

@@ -1,4 +1,5 @@
 // A number of 64 bits as a word. Assumes nothing of the word.
+
 const LARGEST: u64 = 0xFFFF_FFFF_FFFF_FFFF;
 
 // A number, if the word was in the form.

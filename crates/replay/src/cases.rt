@@ -35,7 +35,7 @@ pub fn answer(line: &[u8], space: &mut [u8], buffer: &mut [u8], out: &mut [u8], 
     ensures { λ r. ⌜ r < length (now (out .exit)) ⌝ }
 {
     let words = after(line, BLANK);
-    match named(first(line, BLANK)) {
+    match named(line) {
         Case::Study => study(words, space, buffer, out, at),
         Case::Check => check(words, space, out, at),
         Case::Release => release(words, out, at),
@@ -49,17 +49,11 @@ fn study(words: &[u8], space: &mut [u8], buffer: &mut [u8], out: &mut [u8], at: 
     requires { ⌜ at < length (now out) ⌝ }
     ensures { λ r. ⌜ r < length (now (out .exit)) ⌝ }
 {
-    study_from(
-        days::read(first(words, BLANK)),
-        after(words, BLANK),
-        space,
-        buffer,
-        out,
-        at,
-    )
+    let read = days::read(first(words, BLANK));
+    study_from(read, words, space, buffer, out, at)
 }
 
-// `C S H BUFLEN`, from a day.
+// The same, from the day.
 fn study_from(
     read: DayRead,
     words: &[u8],
@@ -164,15 +158,11 @@ fn release(words: &[u8], out: &mut [u8], at: usize) -> usize
     requires { ⌜ at < length (now out) ⌝ }
     ensures { λ r. ⌜ r < length (now (out .exit)) ⌝ }
 {
-    release_from(
-        days::read(first(words, BLANK)),
-        numbers::read(after(words, BLANK)),
-        out,
-        at,
-    )
+    let read = days::read(first(words, BLANK));
+    release_from(read, numbers::read(after(words, BLANK)), out, at)
 }
 
-// The same, from a day.
+// The same, from the day.
 fn release_from(read: DayRead, unit: NumberRead, out: &mut [u8], at: usize) -> usize
     requires { ⌜ at < length (now out) ⌝ }
     ensures { λ r. ⌜ r < length (now (out .exit)) ⌝ }

@@ -40,17 +40,18 @@ pub fn read(words: &[u8], space: &mut [u8]) -> FilesRead
     decode_all(first(words, BLANK), first(s, BLANK), after(s, BLANK), space)
 }
 
-// `C S H BUFLEN`: the same, and at most `most` bytes lent.
+// `DAY C S H BUFLEN`: the same, and at most `most` bytes lent.
 pub fn read_lending(words: &[u8], most: usize, space: &mut [u8]) -> Lending
     ensures { λ r. ⌜ r .supply ≤ r .schedules ⌝ }
     ensures { λ r. ⌜ r .schedules ≤ r .end ⌝ }
     ensures { λ r. ⌜ r .end ≤ length (now (space .exit)) ⌝ }
     ensures { λ r. ⌜ r .lent ≤ most ⌝ }
 {
-    let s = after(words, BLANK);
+    let c = after(words, BLANK);
+    let s = after(c, BLANK);
     let h = after(s, BLANK);
     let lent = read_lent(after(h, BLANK), most);
-    let files = decode_all(first(words, BLANK), first(s, BLANK), first(h, BLANK), space);
+    let files = decode_all(first(c, BLANK), first(s, BLANK), first(h, BLANK), space);
     Lending {
         is_read: lent.is_read & files.is_read,
         supply: files.supply,

@@ -59,17 +59,15 @@ fn decode_pairs(text: &[u8], count: usize, space: &mut [u8], at: usize) -> Decod
 {
     let mut i = 0;
     while i < count {
-        let pair = read_pair(text[2 * i], text[2 * i + 1]);
+        let pair = read_pair(text, 2 * i);
         if !pair.is_read {
             return unreadable(at);
         }
         space[at + i] = pair.byte;
         i += 1;
     }
-    Decoded {
-        is_read: true,
-        end: at + count,
-    }
+    let end = at + count;
+    Decoded { is_read: true, end }
 }
 
 fn unreadable(at: usize) -> Decoded
@@ -81,10 +79,12 @@ fn unreadable(at: usize) -> Decoded
     }
 }
 
-// The byte of two digits.
-fn read_pair(first: u8, second: u8) -> ByteRead {
-    let high = value(first);
-    let low = value(second);
+// The byte of the two digits at a place.
+fn read_pair(text: &[u8], at: usize) -> ByteRead
+    requires { ⌜ at + 1 < length (now text) ⌝ }
+{
+    let high = value(text[at]);
+    let low = value(text[at + 1]);
     if BASE <= high {
         return no_byte();
     }

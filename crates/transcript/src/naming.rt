@@ -1,4 +1,6 @@
-// Which case a line asks, by its first word. Assumes nothing of the word.
+// Which case a line asks, by its first word. Assumes nothing of the line.
+use crate::words::BLANK;
+use crate::words::first;
 use crate::words::is;
 
 pub enum Case {
@@ -9,7 +11,8 @@ pub enum Case {
     Unknown,
 }
 
-pub fn named(word: &[u8]) -> Case {
+pub fn named(line: &[u8]) -> Case {
+    let word = first(line, BLANK);
     if is(word, b"study") {
         return Case::Study;
     }

@@ -18,18 +18,6 @@ loop-holds c = search needs
 mul-read-pair : tie.Need-mul-read-pair Inv-loop μ-loop
 mul-read-pair c = search needs
 
-shared-slice-read-read-pair : tie.Need-shared-slice-read-read-pair Inv-loop μ-loop
-shared-slice-read-read-pair c = search needs
-
-mul-read-pair-2 : tie.Need-mul-read-pair-2 Inv-loop μ-loop
-mul-read-pair-2 c = search needs
-
-add-read-pair : tie.Need-add-read-pair Inv-loop μ-loop
-add-read-pair c = search needs
-
-shared-slice-read-read-pair-2 : tie.Need-shared-slice-read-read-pair-2 Inv-loop μ-loop
-shared-slice-read-read-pair-2 c = search needs
-
 read-pair-requires : tie.Need-read-pair-requires Inv-loop μ-loop
 read-pair-requires c κs = search needs
 
@@ -57,8 +45,8 @@ loop-less c = search needs
 loop-again : tie.Need-loop-again Inv-loop μ-loop
 loop-again c = search needs
 
-add-t16 : tie.Need-add-t16 Inv-loop μ-loop
-add-t16 c = search needs
+add-end : tie.Need-add-end Inv-loop μ-loop
+add-end c = search needs
 
 same-length-2 : tie.Need-same-length-2 Inv-loop μ-loop
 same-length-2 c = search needs
@@ -74,10 +62,6 @@ decode-pairs-spec =
     μ-loop
     loop-holds
     mul-read-pair
-    shared-slice-read-read-pair
-    mul-read-pair-2
-    add-read-pair
-    shared-slice-read-read-pair-2
     read-pair-requires
     unreadable-requires
     same-length
@@ -87,6 +71,6 @@ decode-pairs-spec =
     add-i
     loop-less
     loop-again
-    add-t16
+    add-end
     same-length-2
     returns-2)

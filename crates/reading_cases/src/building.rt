@@ -1,129 +1,89 @@
-// The cases of a topic, several in one text, and the files that they build: a header and rows behind
-// it, or a row many times over. Assumes that no case has a bar in it; a text that has no room is cut.
+// A case, from its line to the bytes of its file. Assumes nothing of the line.
 ghost use Prim.Native.Nat.{_≤_};
 ghost use lib.ListN.{length};
 use crate::report::case;
+use cases::after;
+use cases::first;
+use cases::is;
+use cases::put;
+use cases::put_header;
+use cases::repeat;
+use cases::unreadable;
+use numeral::Answer;
 use tables::File;
 
-// Stands between two cases.
-const BAR: u8 = b'|';
+const BLANK: u8 = b' ';
 
-// Room for the longest file that a case builds, of 1,026 short rows.
+// Room for more than the longest file that a case builds, of 1,026 short rows.
 const FILE_BYTES: usize = 32768;
 
-// Files as they stand.
-pub fn constraint(files: &[u8]) {
-    each(File::Constraint, false, files);
-}
+// The most times that a row may be wanted.
+const MOST: u64 = 9999;
 
-pub fn supply(files: &[u8]) {
-    each(File::Supply, false, files);
-}
-
-pub fn schedules(files: &[u8]) {
-    each(File::Schedules, false, files);
-}
-
-// Files of a header and what the cases put behind it.
-pub fn constraint_rows(rows: &[u8]) {
-    each(File::Constraint, true, rows);
-}
-
-pub fn supply_rows(rows: &[u8]) {
-    each(File::Supply, true, rows);
-}
-
-pub fn schedules_rows(rows: &[u8]) {
-    each(File::Schedules, true, rows);
-}
-
-// Runs several cases, with a bar between two.
-fn each(file: File, headed: bool, texts: &[u8]) {
-    let mut rest = texts;
-    loop {
-        let n = before_bar(rest);
-        one(file, headed, &rest[0..n]);
-        if rest.len() <= n {
-            return;
-        }
-        let next = n + 1;
-        rest = &rest[next..];
+// Reads the file of a case and prints what comes of it; does nothing with a line that is no case.
+pub fn answer(line: &[u8]) {
+    if !cases::is_case(line) {
+        return;
     }
-}
-
-fn before_bar(texts: &[u8]) -> usize
-    ensures { λ r. ⌜ r ≤ length (now (texts .entry)) ⌝ }
-{
-    let mut i = 0;
-    while i < texts.len() {
-        if texts[i] == BAR {
-            return i;
-        }
-        i += 1;
-    }
-    i
-}
-
-fn one(file: File, headed: bool, text: &[u8]) {
-    if headed {
-        many(file, 0, b"", text);
+    let name = first(line, BLANK);
+    let form = after(line, BLANK);
+    if is(name, b"constraint") {
+        one(File::Constraint, form);
+    } else if is(name, b"supply") {
+        one(File::Supply, form);
+    } else if is(name, b"schedules") {
+        one(File::Schedules, form);
     } else {
-        case(file, text);
+        unreadable();
     }
 }
 
-// A file's header, then a row many times over, then what stands last.
-pub fn many(file: File, count: usize, row: &[u8], last: &[u8]) {
+fn one(file: File, form: &[u8]) {
     let mut bytes = [0u8; FILE_BYTES];
-    let end = build(file, count, row, last, &mut bytes);
-    case(file, &bytes[0..end]);
+    let count = build(file, form, &mut bytes);
+    if count < FILE_BYTES {
+        case(file, &bytes[0..count]);
+    } else {
+        unreadable();
+    }
 }
 
-fn build(file: File, count: usize, row: &[u8], last: &[u8], out: &mut [u8]) -> usize
-    ensures { λ r. ⌜ r ≤ length (now (out .entry)) ⌝ }
+// Writes the file.
+fn build(file: File, form: &[u8], out: &mut [u8]) -> usize
+    ensures { λ r. ⌜ r ≤ length (now (out .exit)) ⌝ }
 {
-    let mut at = header(file, out);
-    at += repeat(&mut out[at..], count, row);
-    at += append(&mut out[at..], last);
+    let name = first(form, BLANK);
+    let rest = after(form, BLANK);
+    if is(name, b"file") {
+        return put(rest, out);
+    }
+    let mut at = put_header(file, out);
+    at += rows(name, rest, &mut out[at..]);
     at
 }
 
-fn header(file: File, out: &mut [u8]) -> usize
-    ensures { λ r. ⌜ r ≤ length (now (out .entry)) ⌝ }
+// Writes what stands behind the header.
+fn rows(name: &[u8], text: &[u8], out: &mut [u8]) -> usize
+    ensures { λ r. ⌜ r ≤ length (now (out .exit)) ⌝ }
 {
-    match file {
-        File::Constraint => append(out, b"hour,relief,cutoff\r\n"),
-        File::Supply => append(out, b"unit,supplier,mw,cost,dfax\r\n"),
-        File::Schedules => append(
-            out,
-            b"unit,schedule,kind,hour,ecomin,price,noload,startup,minrun\r\n",
-        ),
+    if is(name, b"rows") {
+        return put(text, out);
     }
+    if is(name, b"many") {
+        return many(text, out);
+    }
+    out.len()
 }
 
-fn repeat(out: &mut [u8], count: usize, text: &[u8]) -> usize
-    ensures { λ r. ⌜ r ≤ length (now (out .entry)) ⌝ }
+// Writes a row as often as the first word says, and what stands behind it.
+fn many(text: &[u8], out: &mut [u8]) -> usize
+    ensures { λ r. ⌜ r ≤ length (now (out .exit)) ⌝ }
 {
-    let mut at = 0;
-    let mut k = 0;
-    while k < count {
-        at += append(&mut out[at..], text);
-        k += 1;
-    }
+    let Answer::Number(count) = numeral::read(first(text, BLANK), 0, MOST) else {
+        return out.len();
+    };
+    let row = after(text, BLANK);
+    let mut at = repeat(count, first(row, BLANK), out);
+    at += put(after(row, BLANK), &mut out[at..]);
     at
-}
-
-// Writes a text at the start of `out`, and answers its length.
-fn append(out: &mut [u8], text: &[u8]) -> usize
-    ensures { λ r. ⌜ r ≤ length (now (out .entry)) ⌝ }
-{
-    let mut i = 0;
-    while i < text.len() {
-        if out.len() <= i {
-            return i;
-        }
-        out[i] = text[i];
-        i += 1;
-    }
-    i
 }

@@ -1,24 +1,37 @@
-// Cases of reading one file, one line for each: the refusal as number, file and place, or `rows N:`
-// and every cell. The file `stdout` was made without the engine: the refusals are an independent
-// peer's, and the cells were worked from document 01. Assumes nothing.
+// Cases of reading one file, from standard input, and a line for each: the refusal as number, file
+// and place, or `rows N:` and every cell. The file `stdout` was made without the engine: the refusals
+// are an independent peer's, and the cells were worked from document 01. A case is
+//
+//     FILE file BYTES           a whole file
+//     FILE rows BYTES           the right header, and these bytes behind it
+//     FILE many N ROW BYTES     the right header, ROW N times over, and these bytes behind it
+//
+// where FILE is `constraint`, `supply` or `schedules`. One space stands between two words, and
+// BYTES that are missing are none. Lines and escapes are those of the crate `cases`. Assumes nothing;
+// a line that is not in the form prints `unreadable case`.
 mod building;
-mod fields;
-mod headers;
-mod order;
-mod quoted;
-mod ranges;
-mod records;
 mod report;
-mod sizes;
-mod syntax;
+
+use cases::behind;
+use cases::first;
+use libc::STDIN_FILENO;
+
+const LF: u8 = b'\n';
+
+// Room for all cases.
+const INPUT: usize = 65536;
 
 fn main() {
-    syntax::cases();
-    quoted::cases();
-    records::cases();
-    headers::cases();
-    fields::cases();
-    ranges::cases();
-    order::cases();
-    sizes::cases();
+    let mut input = [0u8; INPUT];
+    let count = io::read_full(STDIN_FILENO, &mut input);
+    run(&input[0..count]);
+}
+
+fn run(text: &[u8]) {
+    let mut rest = text;
+    while 0 < rest.len() {
+        building::answer(first(rest, LF));
+        let next = behind(rest, LF);
+        rest = &rest[next..];
+    }
 }

@@ -1,9 +1,9 @@
-// What a case prints, and the files that a case builds: header and rows, or a row many times over.
-// Assumes that no column permits the largest 64-bit number.
+// What a case prints. Assumes that no column permits the largest 64-bit number.
+use cases::print;
+use cases::print_three;
 use libc::STDOUT_FILENO;
 use tables::File;
 use tables::Reading;
-use tables::Refusal;
 
 // The cells of the longest file: 1,024 rows of 9.
 const CELLS: usize = 9216;
@@ -17,17 +17,8 @@ pub fn case(file: File, bytes: &[u8]) {
     let reading = reading::read(file, bytes, &mut cells);
     match reading {
         Reading::Rows(rows) => print_rows(rows, &cells),
-        Reading::Refused(refusal) => print_refusal(refusal),
+        Reading::Refused(refusal) => print_three(refusal.number, refusal.file, refusal.place),
     }
-}
-
-fn print_refusal(refusal: Refusal) {
-    io::print_decimal(STDOUT_FILENO, refusal.number);
-    print(b",");
-    io::print_decimal(STDOUT_FILENO, refusal.file);
-    print(b",");
-    io::print_decimal(STDOUT_FILENO, refusal.place);
-    print(b"\n");
 }
 
 fn print_rows(rows: usize, cells: &[u64]) {
@@ -55,8 +46,4 @@ fn print_cell(i: usize, cell: u64) {
         print(b",");
     }
     io::print_decimal(STDOUT_FILENO, cell);
-}
-
-fn print(text: &[u8]) {
-    io::write_all(STDOUT_FILENO, text);
 }

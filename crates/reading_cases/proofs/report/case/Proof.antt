@@ -34,8 +34,8 @@ print-rows-requires c κs = search needs
 enum-known-reading-2 : tie.Need-enum-known-reading-2
 enum-known-reading-2 c = search needs
 
-print-refusal-requires : tie.Need-print-refusal-requires
-print-refusal-requires c κs = search needs
+print-three-requires : tie.Need-print-three-requires
+print-three-requires c κs = search needs
 
 returns : tie.Need-returns
 returns c = search needs
@@ -53,6 +53,6 @@ case-spec =
     slice-aggregate-print-rows
     print-rows-requires
     enum-known-reading-2
-    print-refusal-requires
+    print-three-requires
     returns
     returns-2)

@@ -1,31 +1,31 @@
 -- A text, once a turn. Assumes nothing.
-use Prim.Native.Nat.{_≤_, _-_}
 use mathlib.Core.Path.{_≡_}
+use Prim.Native.Nat.{_-_, _≤_}
 use lib.ListN.{length}
 use borrow.Author.Needs.{needs}
-use Rattle.reading_cases.proofs.building.repeat.Statement.{statement}
-use Rattle.reading_cases.proofs.building.repeat.Tie as tie
+use Rattle.cases.proofs.files.repeat.Statement.{statement}
+use Rattle.cases.proofs.files.repeat.Tie as tie
 
 abbrev Inv-loop : tie.InvT-loop
-Inv-loop out₀ count text at₀ k₀ out at k = (k ≤ count) × (at ≤ length out) × (length out ≡ length out₀)
+Inv-loop count text out₀ at₀ k₀ out at k = (k ≤ count) × (at ≤ length out) × (length out ≡ length out₀)
 
 abbrev μ-loop : tie.MeasureT-loop
-μ-loop out₀ count text at₀ k₀ out at k = count - k
+μ-loop count text out₀ at₀ k₀ out at k = count - k
 
 loop-holds : tie.Need-loop-holds Inv-loop μ-loop
 loop-holds c = search needs
 
-sub-append : tie.Need-sub-append Inv-loop μ-loop
-sub-append c = search needs
+sub-put : tie.Need-sub-put Inv-loop μ-loop
+sub-put c = search needs
 
-part-append-start : tie.Need-part-append-start Inv-loop μ-loop
-part-append-start c = search needs
+part-put-start : tie.Need-part-put-start Inv-loop μ-loop
+part-put-start c = search needs
 
-part-append-end : tie.Need-part-append-end Inv-loop μ-loop
-part-append-end c = search needs
+part-put-end : tie.Need-part-put-end Inv-loop μ-loop
+part-put-end c = search needs
 
-append-requires : tie.Need-append-requires Inv-loop μ-loop
-append-requires c κs = search needs
+put-requires : tie.Need-put-requires Inv-loop μ-loop
+put-requires c κs = search needs
 
 add-at : tie.Need-add-at Inv-loop μ-loop
 add-at c = search needs
@@ -52,10 +52,10 @@ repeat-spec =
     Inv-loop
     μ-loop
     loop-holds
-    sub-append
-    part-append-start
-    part-append-end
-    append-requires
+    sub-put
+    part-put-start
+    part-put-end
+    put-requires
     add-at
     add-k
     loop-less

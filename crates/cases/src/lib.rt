@@ -1,0 +1,23 @@
+// What programs of cases share: the lines of a text and their words, the bytes that a text with
+// escapes stands for, a file's header, and printing. A case is a line; a line that is empty or begins
+// with `#` is none. In a case `\r`, `\n`, `\t`, `\s` (a space), `\\` and `\xHH` stand for one byte.
+//
+// A writer writes at the start of `out` and answers how many bytes it wrote, or the whole of `out`
+// where the text isn't in the form or has no room. A writer behind it then has no room either, so
+// bytes that fill their buffer are those of a case that can't be read. Assumes nothing.
+mod escapes;
+mod files;
+mod lines;
+mod printing;
+
+pub use escapes::put;
+pub use files::put_header;
+pub use files::repeat;
+pub use lines::after;
+pub use lines::behind;
+pub use lines::first;
+pub use lines::is;
+pub use lines::is_case;
+pub use printing::print;
+pub use printing::print_three;
+pub use printing::unreadable;

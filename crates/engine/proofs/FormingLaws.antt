@@ -1,9 +1,9 @@
 -- Laws of well-formed days, by their hour and their units. Assumes nothing.
+use Prim.Native.Nat.{_≤_}
 use mathlib.Core.Path.{_≡_, refl, sym, _∙_}
 use mathlib.Core.Bool.{Bool, true, false, _&&_}
 use lib.Dec.{leb}
 use lib.ListN.{length}
-use Prim.Native.Nat.{_≤_}
 use Rattle.base.proofs.Tests.{and-snd}
 use Rattle.judge.specs.Day.{DayView, mostRunning, hourInRange, risingInRange, dayFormed}
 use Rattle.running.specs.Forming.{unitsFormed}

@@ -8,13 +8,13 @@ use mathlib.Core.List.{List, [], _∷_, _++_, map}
 use mathlib.Core.Option.{Option, none, some}
 use native.Mathlib.Omega.{arith}
 use lib.Dec.{eqb}
-use lib.ListN.{length, take, length-append}
+use lib.ListN.{length, length-append}
 use Rattle.base.specs.Rising.{among, RisingFrom, end, inserted}
 use Rattle.base.specs.Search.{All, all-none, all-more}
 use Rattle.base.proofs.Elements.{all-mem}
 use Rattle.base.proofs.Tests.{either}
 use Rattle.base.proofs.RisingLaws.{inserted-rising, inserted-new, inserted-there, among-inserted}
-use Rattle.tables.specs.Ranges.{PermittedConstraint, PermittedSupply, PermittedSchedule}
+use Rattle.tables.specs.Ranges.{PermittedSupply}
 use Rattle.tables.specs.Rows.{ConstraintRow, SupplyRow, ScheduleRow, constraintRow, supplyRows, scheduleRows}
 use Rattle.tables.specs.declared.files.Refusal.{Refusal}
 use Rattle.filing.specs.Filed.{sizes, filed, filedUnless, FilesKept, FilesFiled}
@@ -24,7 +24,7 @@ use Rattle.filing.specs.declared.files.Filed.the-variants.{Rows, Refused}
 use Rattle.filing.specs.declared.files.Sizes.{Sizes}
 use Rattle.filing.proofs.KeptLaws.{kept}
 use Rattle.filing.specs.Kept.{Kept}
-use Rattle.supply.specs.Supply.{units, suppliers, suppliersFrom, mostUnits}
+use Rattle.supply.specs.Supply.{units, suppliers, suppliersFrom}
 use Rattle.supply.proofs.UnitLaws.{units-rising}
 use Rattle.market.specs.Parties.{party, parties, met, metAll}
 use Rattle.commitment.specs.Ranges.{UnitRows}

@@ -2,8 +2,7 @@
 -- Assumes nothing.
 use Prim.Native.Nat.{ℕ, _≤_, _<_}
 use mathlib.Core.Path.{_≡_, refl, sym, _∙_, ap}
-use mathlib.Core.Logic.{_↔_}
-use mathlib.Core.Bool.{Bool, true, false, cond, not}
+use mathlib.Core.Bool.{Bool, true, false, not}
 use mathlib.Core.List.{List, [], _∷_, _++_, map}
 use mathlib.Core.Option.{Option, none, some, Option·map}
 use native.Mathlib.Omega.{arith}
@@ -23,9 +22,7 @@ use Rattle.supply.specs.Supply.{units}
 use Rattle.judge.specs.Answer.{AnswerRow, answerText}
 use Rattle.judge.specs.Day.{DayView, mostRunning, dayFormed, stateRefused, unless, earlier, wouldRun, putAll, committed}
 use Rattle.judge.specs.Decision.{decided, costless}
-use Rattle.judge.specs.Right.{Right}
 use Rattle.judge.specs.Study.{
-  Outcome,
   chosen,
   written,
   outcome,
@@ -45,7 +42,7 @@ use Rattle.engine.specs.Studying.{studyAnswer, refusing, Comes, Studies,
 use Rattle.engine.specs.View.{viewOf}
 use Rattle.engine.specs.declared.day.Day.{Day}
 use Rattle.engine.specs.declared.day.LastHour.the-variants.{At}
-use Rattle.engine.specs.declared.studying.Study.the-variants.{Written, Refused}
+use Rattle.engine.specs.declared.studying.Study.the-variants.{Written}
 use Rattle.engine.specs.declared.studying.Studied.{Studied}
 
 -- a rule of the state that is broken, and one that is kept

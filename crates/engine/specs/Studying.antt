@@ -11,7 +11,7 @@ use Rattle.tables.specs.Rows.{ConstraintRow, SupplyRow, ScheduleRow}
 use Rattle.tables.specs.declared.files.Refusal.{Refusal}
 use Rattle.supply.specs.Supply.{mostUnits}
 use Rattle.answer.specs.Rows.{Lettered}
-use Rattle.judge.specs.Answer.{AnswerRow, answerText, answerRows, answerWidth}
+use Rattle.judge.specs.Answer.{AnswerRow, answerRows, answerWidth}
 use Rattle.judge.specs.Day.{DayView}
 use Rattle.judge.specs.Decision.{decided}
 use Rattle.judge.specs.Right.{Right}

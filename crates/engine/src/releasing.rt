@@ -1,7 +1,6 @@
 // Release: a unit is taken out of the day, and nothing else changes. Assumes nothing of the day or of
 // the unit's number.
 ghost use mathlib.Core.Path.{_≡_};
-ghost use Rattle.engine.specs.View.{viewOf};
 ghost use Rattle.engine.specs.Releasing.{refusing, Releases};
 use crate::day::Day;
 use tables::Refusal;

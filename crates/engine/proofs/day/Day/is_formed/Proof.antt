@@ -1,5 +1,4 @@
 -- A day by its hour and its units. Assumes nothing.
-use mathlib.Core.Path.{sym, _∙_}
 use borrow.Author.Needs.{needs}
 use Rattle.engine.specs.View.{viewOf}
 use Rattle.engine.proofs.FormingLaws.{by-parts}

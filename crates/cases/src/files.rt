@@ -2,7 +2,16 @@
 ghost use Prim.Native.Nat.{_≤_};
 ghost use lib.ListN.{length};
 use crate::escapes::put;
+use crate::lines::after;
+use crate::lines::first;
+use numeral::Answer;
 use tables::File;
+
+// Between the words of a line.
+const BLANK: u8 = b' ';
+
+// The most times that a row may be wanted.
+const MOST: u64 = 9999;
 
 // Writes the right header.
 pub fn put_header(file: File, out: &mut [u8]) -> usize
@@ -18,8 +27,21 @@ pub fn put_header(file: File, out: &mut [u8]) -> usize
     }
 }
 
+// Writes what `N ROW BYTES` stands for: ROW N times over, and BYTES behind it, which may be missing.
+pub fn put_many(text: &[u8], out: &mut [u8]) -> usize
+    ensures { λ r. ⌜ r ≤ length (now (out .exit)) ⌝ }
+{
+    let Answer::Number(count) = numeral::read(first(text, BLANK), 0, MOST) else {
+        return out.len();
+    };
+    let row = after(text, BLANK);
+    let mut at = repeat(count, first(row, BLANK), out);
+    at += put(after(row, BLANK), &mut out[at..]);
+    at
+}
+
 // Writes what a text stands for so many times.
-pub fn repeat(count: u64, text: &[u8], out: &mut [u8]) -> usize
+fn repeat(count: u64, text: &[u8], out: &mut [u8]) -> usize
     ensures { λ r. ⌜ r ≤ length (now (out .exit)) ⌝ }
 {
     let mut at = 0;

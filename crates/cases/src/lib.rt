@@ -12,7 +12,7 @@ mod printing;
 
 pub use escapes::put;
 pub use files::put_header;
-pub use files::repeat;
+pub use files::put_many;
 pub use lines::after;
 pub use lines::behind;
 pub use lines::first;

@@ -1,185 +1,105 @@
-// The cases of a topic, several in one text, and the files that they build. A bar stands between two
-// cases and a semicolon between the files of a case: what stands behind the header of constraint,
-// supply and schedules. A slash stands between two rows; an at sign for rows that keep every rule, an
-// asterisk for a row as often as its file may have rows, a percent sign for the rows of 64 units.
-// Assumes that no file has any of these in it; a text that has no room is cut.
+// A case, from its line to the bytes of its files; what a mark stands for is found in the whole text.
+// Assumes nothing of either.
 ghost use Prim.Native.Nat.{_≤_};
 ghost use lib.ListN.{length};
-use crate::crowd;
 use crate::report::case;
+use cases::after;
+use cases::behind;
+use cases::first;
+use cases::is;
+use cases::put;
+use cases::put_header;
+use cases::put_many;
+use cases::unreadable;
 use tables::File;
 
-const BAR: u8 = b'|';
+const LF: u8 = b'\n';
 
 const SEMICOLON: u8 = b';';
 
-// Room for the longest file that a case builds, of 1,027 short rows.
-const FILE_BYTES: usize = 32768;
+const COLON: u8 = b':';
 
-// How many rows a file may have.
-const SUPPLY_ROWS: usize = 256;
+// Room for more than the three files of any case.
+const FILES: usize = 32768;
 
-const SCHEDULE_ROWS: usize = 1024;
-
-// Runs several cases.
-pub fn each(cases: &[u8]) {
-    let mut rest = cases;
-    loop {
-        let n = before(rest, BAR);
-        one(&rest[0..n]);
-        if rest.len() <= n {
-            return;
-        }
-        let next = n + 1;
-        rest = &rest[next..];
+// Files the files of a case and prints what comes of it; does nothing with a line that is no case.
+pub fn answer(text: &[u8], line: &[u8]) {
+    if !cases::is_case(line) {
+        return;
     }
-}
-
-// How many bytes stand before a mark, or all where there is none.
-fn before(text: &[u8], mark: u8) -> usize
-    ensures { λ r. ⌜ r ≤ length (now (text .entry)) ⌝ }
-{
-    let mut i = 0;
-    while i < text.len() {
-        if text[i] == mark {
-            return i;
-        }
-        i += 1;
+    if first(line, COLON).len() < line.len() {
+        return;
     }
-    i
-}
-
-// Where the text behind a mark begins.
-fn behind(text: &[u8], mark: u8) -> usize
-    ensures { λ r. ⌜ r ≤ length (now (text .entry)) ⌝ }
-{
-    let n = before(text, mark);
-    if n < text.len() {
-        return n + 1;
+    let rest = after(line, SEMICOLON);
+    if first(rest, SEMICOLON).len() == rest.len() {
+        unreadable();
+        return;
     }
-    n
+    let mut bytes = [0u8; FILES];
+    three(text, line, &mut bytes);
 }
 
-fn one(text: &[u8]) {
-    let n = before(text, SEMICOLON);
-    let next = behind(text, SEMICOLON);
-    two(&text[0..n], &text[next..]);
+// The three files stand in the buffer one behind the other.
+fn three(text: &[u8], line: &[u8], bytes: &mut [u8]) {
+    let a = build(File::Constraint, text, line, bytes);
+    let b = a + build(File::Supply, text, line, &mut bytes[a..]);
+    let c = b + build(File::Schedules, text, line, &mut bytes[b..]);
+    if c == bytes.len() {
+        unreadable();
+        return;
+    }
+    case(&bytes[0..a], &bytes[a..b], &bytes[b..c]);
 }
 
-fn two(constraint: &[u8], rest: &[u8]) {
-    let n = before(rest, SEMICOLON);
-    let next = behind(rest, SEMICOLON);
-    three(constraint, &rest[0..n], &rest[next..]);
-}
-
-fn three(constraint: &[u8], supply: &[u8], schedules: &[u8]) {
-    let mut first = [0u8; FILE_BYTES];
-    let mut second = [0u8; FILE_BYTES];
-    let mut third = [0u8; FILE_BYTES];
-    let a = build(File::Constraint, constraint, &mut first);
-    let b = build(File::Supply, supply, &mut second);
-    let c = build(File::Schedules, schedules, &mut third);
-    case(&first[0..a], &second[0..b], &third[0..c]);
-}
-
-fn build(file: File, rows: &[u8], out: &mut [u8]) -> usize
-    ensures { λ r. ⌜ r ≤ length (now (out .entry)) ⌝ }
+// Writes a file.
+fn build(file: File, text: &[u8], line: &[u8], out: &mut [u8]) -> usize
+    ensures { λ r. ⌜ r ≤ length (now (out .exit)) ⌝ }
 {
-    let mut at = header(file, out);
-    at += expand(file, rows, &mut out[at..]);
+    let mut at = put_header(file, out);
+    at += put_rows(file, text, part(file, line), &mut out[at..]);
     at
 }
 
-fn header(file: File, out: &mut [u8]) -> usize
-    ensures { λ r. ⌜ r ≤ length (now (out .entry)) ⌝ }
-{
+// What a line has for a file.
+fn part(file: File, line: &[u8]) -> &[u8] {
     match file {
-        File::Constraint => append(out, b"hour,relief,cutoff\r\n"),
-        File::Supply => append(out, b"unit,supplier,mw,cost,dfax\r\n"),
-        File::Schedules => append(
-            out,
-            b"unit,schedule,kind,hour,ecomin,price,noload,startup,minrun\r\n",
-        ),
+        File::Constraint => first(line, SEMICOLON),
+        File::Supply => first(after(line, SEMICOLON), SEMICOLON),
+        File::Schedules => after(after(line, SEMICOLON), SEMICOLON),
     }
 }
 
-fn expand(file: File, rows: &[u8], out: &mut [u8]) -> usize
-    ensures { λ r. ⌜ r ≤ length (now (out .entry)) ⌝ }
+fn put_rows(file: File, text: &[u8], rows: &[u8], out: &mut [u8]) -> usize
+    ensures { λ r. ⌜ r ≤ length (now (out .exit)) ⌝ }
 {
     let mut at = 0;
     let mut i = 0;
     while i < rows.len() {
-        at += put(file, rows[i], &mut out[at..]);
+        at += put_byte(file, text, rows[i], &mut out[at..]);
         i += 1;
     }
     at
 }
 
-fn put(file: File, b: u8, out: &mut [u8]) -> usize
-    ensures { λ r. ⌜ r ≤ length (now (out .entry)) ⌝ }
+// Writes what a byte stands for.
+fn put_byte(file: File, text: &[u8], byte: u8, out: &mut [u8]) -> usize
+    ensures { λ r. ⌜ r ≤ length (now (out .exit)) ⌝ }
 {
-    match b {
-        b'/' => append(out, b"\r\n"),
-        b'@' => kept(file, out),
-        b'*' => fill(file, out),
-        b'%' => crowded(file, out),
-        _ => append(out, &[b]),
+    match byte {
+        b'0'..=b'9' | b'A'..=b'Z' | b'a'..=b'z' | b',' | b'-' => put(&[byte], out),
+        _ => put_many(part(file, meaning(text, byte)), out),
     }
 }
 
-fn kept(file: File, out: &mut [u8]) -> usize
-    ensures { λ r. ⌜ r ≤ length (now (out .entry)) ⌝ }
-{
-    match file {
-        File::Constraint => append(out, b"5,1,1"),
-        File::Supply => append(out, b"1,1,1,0,1\r\n2,2,1,0,1"),
-        File::Schedules => append(out, b"1,1,M,5,0,0,0,0,1\r\n2,1,C,5,0,0,0,0,1"),
-    }
-}
-
-fn fill(file: File, out: &mut [u8]) -> usize
-    ensures { λ r. ⌜ r ≤ length (now (out .entry)) ⌝ }
-{
-    match file {
-        File::Constraint => 0,
-        File::Supply => repeat(out, SUPPLY_ROWS, b"1,1,1,0,1\r\n"),
-        File::Schedules => repeat(out, SCHEDULE_ROWS, b"1,1,M,5,0,0,0,0,1\r\n"),
-    }
-}
-
-fn crowded(file: File, out: &mut [u8]) -> usize
-    ensures { λ r. ⌜ r ≤ length (now (out .entry)) ⌝ }
-{
-    match file {
-        File::Constraint => 0,
-        File::Supply => crowd::supply(out),
-        File::Schedules => crowd::schedules(out),
-    }
-}
-
-fn repeat(out: &mut [u8], count: usize, text: &[u8]) -> usize
-    ensures { λ r. ⌜ r ≤ length (now (out .entry)) ⌝ }
-{
-    let mut at = 0;
-    let mut k = 0;
-    while k < count {
-        at += append(&mut out[at..], text);
-        k += 1;
-    }
-    at
-}
-
-// Writes a text at the start of `out`, and answers its length.
-pub fn append(out: &mut [u8], text: &[u8]) -> usize
-    ensures { λ r. ⌜ r ≤ length (now (out .entry)) ⌝ }
-{
-    let mut i = 0;
-    while i < text.len() {
-        if out.len() <= i {
-            return i;
+// What a mark stands for in the three files; nothing where no line says it.
+fn meaning(text: &[u8], mark: u8) -> &[u8] {
+    let mut rest = text;
+    while 0 < rest.len() {
+        if is(first(rest, COLON), &[mark]) {
+            return after(first(rest, LF), COLON);
         }
-        out[i] = text[i];
-        i += 1;
+        let next = behind(rest, LF);
+        rest = &rest[next..];
     }
-    i
+    rest
 }

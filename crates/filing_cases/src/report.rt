@@ -1,8 +1,8 @@
 // What a case prints. Assumes nothing.
+use cases::print;
+use cases::print_three;
 use filing::Filed;
 use filing::Sizes;
-use libc::STDOUT_FILENO;
-use tables::Refusal;
 
 // The cells of the longest files, and a place for the unit that is one too many.
 const CONSTRAINT_CELLS: usize = 3;
@@ -30,7 +30,7 @@ pub fn case(constraint: &[u8], supply: &[u8], schedules: &[u8]) {
     );
     match filed {
         Filed::Rows(sizes) => print_sizes(sizes),
-        Filed::Refused(refusal) => print_refusal(refusal),
+        Filed::Refused(refusal) => print_three(refusal.number, refusal.file, refusal.place),
     }
 }
 
@@ -41,21 +41,4 @@ fn print_sizes(sizes: Sizes) {
         sizes.schedules as u64,
         sizes.units as u64,
     );
-}
-
-fn print_refusal(refusal: Refusal) {
-    print_three(refusal.number, refusal.file, refusal.place);
-}
-
-fn print_three(a: u64, b: u64, c: u64) {
-    io::print_decimal(STDOUT_FILENO, a);
-    print(b",");
-    io::print_decimal(STDOUT_FILENO, b);
-    print(b",");
-    io::print_decimal(STDOUT_FILENO, c);
-    print(b"\n");
-}
-
-fn print(text: &[u8]) {
-    io::write_all(STDOUT_FILENO, text);
 }

@@ -7,18 +7,14 @@ use cases::first;
 use cases::is;
 use cases::put;
 use cases::put_header;
-use cases::repeat;
+use cases::put_many;
 use cases::unreadable;
-use numeral::Answer;
 use tables::File;
 
 const BLANK: u8 = b' ';
 
 // Room for more than the longest file that a case builds, of 1,026 short rows.
 const FILE_BYTES: usize = 32768;
-
-// The most times that a row may be wanted.
-const MOST: u64 = 9999;
 
 // Reads the file of a case and prints what comes of it; does nothing with a line that is no case.
 pub fn answer(line: &[u8]) {
@@ -70,20 +66,7 @@ fn rows(name: &[u8], text: &[u8], out: &mut [u8]) -> usize
         return put(text, out);
     }
     if is(name, b"many") {
-        return many(text, out);
+        return put_many(text, out);
     }
     out.len()
-}
-
-// Writes a row as often as the first word says, and what stands behind it.
-fn many(text: &[u8], out: &mut [u8]) -> usize
-    ensures { λ r. ⌜ r ≤ length (now (out .exit)) ⌝ }
-{
-    let Answer::Number(count) = numeral::read(first(text, BLANK), 0, MOST) else {
-        return out.len();
-    };
-    let row = after(text, BLANK);
-    let mut at = repeat(count, first(row, BLANK), out);
-    at += put(after(row, BLANK), &mut out[at..]);
-    at
 }

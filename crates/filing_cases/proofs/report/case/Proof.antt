@@ -32,8 +32,8 @@ print-sizes-requires c κs = search needs
 enum-known-filed-2 : tie.Need-enum-known-filed-2
 enum-known-filed-2 c = search needs
 
-print-refusal-requires : tie.Need-print-refusal-requires
-print-refusal-requires c κs = search needs
+print-three-requires : tie.Need-print-three-requires
+print-three-requires c κs = search needs
 
 returns : tie.Need-returns
 returns c = search needs
@@ -53,6 +53,6 @@ case-spec =
     enum-known-filed
     print-sizes-requires
     enum-known-filed-2
-    print-refusal-requires
+    print-three-requires
     returns
     returns-2)

@@ -19,8 +19,8 @@ const SEMICOLON: u8 = b';';
 
 const COLON: u8 = b':';
 
-// Room for more than the three files of any case.
-const FILES: usize = 32768;
+// Room for more than the longest file that a case builds, of 1,027 short rows.
+const FILE: usize = 32768;
 
 // Files the files of a case and prints what comes of it; does nothing with a line that is no case.
 pub fn answer(text: &[u8], line: &[u8]) {
@@ -35,20 +35,38 @@ pub fn answer(text: &[u8], line: &[u8]) {
         unreadable();
         return;
     }
-    let mut bytes = [0u8; FILES];
-    three(text, line, &mut bytes);
+    with_constraint(text, line);
 }
 
-// The three files stand in the buffer one behind the other.
-fn three(text: &[u8], line: &[u8], bytes: &mut [u8]) {
-    let a = build(File::Constraint, text, line, bytes);
-    let b = a + build(File::Supply, text, line, &mut bytes[a..]);
-    let c = b + build(File::Schedules, text, line, &mut bytes[b..]);
-    if c == bytes.len() {
+// Writes the constraint, and goes on to the other files.
+fn with_constraint(text: &[u8], line: &[u8]) {
+    let mut bytes = [0u8; FILE];
+    let count = build(File::Constraint, text, line, &mut bytes);
+    if count == FILE {
         unreadable();
         return;
     }
-    case(&bytes[0..a], &bytes[a..b], &bytes[b..c]);
+    with_supply(text, line, &bytes[0..count]);
+}
+
+fn with_supply(text: &[u8], line: &[u8], constraint: &[u8]) {
+    let mut bytes = [0u8; FILE];
+    let count = build(File::Supply, text, line, &mut bytes);
+    if count == FILE {
+        unreadable();
+        return;
+    }
+    with_schedules(text, line, constraint, &bytes[0..count]);
+}
+
+fn with_schedules(text: &[u8], line: &[u8], constraint: &[u8], supply: &[u8]) {
+    let mut bytes = [0u8; FILE];
+    let count = build(File::Schedules, text, line, &mut bytes);
+    if count == FILE {
+        unreadable();
+        return;
+    }
+    case(constraint, supply, &bytes[0..count]);
 }
 
 // Writes a file.
@@ -85,9 +103,17 @@ fn put_rows(file: File, text: &[u8], rows: &[u8], out: &mut [u8]) -> usize
 fn put_byte(file: File, text: &[u8], byte: u8, out: &mut [u8]) -> usize
     ensures { λ r. ⌜ r ≤ length (now (out .exit)) ⌝ }
 {
+    if is_plain(byte) {
+        return put(&[byte], out);
+    }
+    put_many(part(file, meaning(text, byte)), out)
+}
+
+// Whether a byte stands for itself.
+fn is_plain(byte: u8) -> bool {
     match byte {
-        b'0'..=b'9' | b'A'..=b'Z' | b'a'..=b'z' | b',' | b'-' => put(&[byte], out),
-        _ => put_many(part(file, meaning(text, byte)), out),
+        b'0'..=b'9' | b'A'..=b'Z' | b'a'..=b'z' | b',' | b'-' => true,
+        _ => false,
     }
 }
 

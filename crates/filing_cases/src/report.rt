@@ -2,7 +2,6 @@
 use cases::print;
 use cases::print_three;
 use filing::Filed;
-use filing::Sizes;
 
 // The cells of the longest files, and a place for the unit that is one too many.
 const CONSTRAINT_CELLS: usize = 3;
@@ -29,16 +28,12 @@ pub fn case(constraint: &[u8], supply: &[u8], schedules: &[u8]) {
         &mut units,
     );
     match filed {
-        Filed::Rows(sizes) => print_sizes(sizes),
+        Filed::Rows(sizes) => print_rows(sizes.supply, sizes.schedules, sizes.units),
         Filed::Refused(refusal) => print_three(refusal.number, refusal.file, refusal.place),
     }
 }
 
-fn print_sizes(sizes: Sizes) {
+fn print_rows(supply: usize, schedules: usize, units: usize) {
     print(b"rows ");
-    print_three(
-        sizes.supply as u64,
-        sizes.schedules as u64,
-        sizes.units as u64,
-    );
+    print_three(supply as u64, schedules as u64, units as u64);
 }

@@ -26,8 +26,8 @@ file-requires c κs = (
 enum-known-filed : tie.Need-enum-known-filed
 enum-known-filed c = search needs
 
-print-sizes-requires : tie.Need-print-sizes-requires
-print-sizes-requires c κs = search needs
+print-rows-requires : tie.Need-print-rows-requires
+print-rows-requires c κs = search needs
 
 enum-known-filed-2 : tie.Need-enum-known-filed-2
 enum-known-filed-2 c = search needs
@@ -51,7 +51,7 @@ case-spec =
     slice-aggregate-file-4
     file-requires
     enum-known-filed
-    print-sizes-requires
+    print-rows-requires
     enum-known-filed-2
     print-three-requires
     returns

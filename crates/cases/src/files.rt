@@ -2,10 +2,10 @@
 ghost use Prim.Native.Nat.{_≤_};
 ghost use lib.ListN.{length};
 use crate::escapes::put;
-use crate::lines::after;
-use crate::lines::first;
 use numeral::Answer;
 use tables::File;
+use texts::after;
+use texts::first;
 
 // Between the words of a line.
 const BLANK: u8 = b' ';

@@ -1,5 +1,5 @@
-// What programs of cases share: the lines of a text and their words, the bytes that a text with
-// escapes stands for, a file's header, and printing. A case is a line; a line that is empty or begins
+// What programs of cases share: which lines are cases, the bytes that a text with escapes stands for,
+// a file's header, and printing. A case is a line; a line that is empty or begins
 // with `#` is none. In a case `\r`, `\n`, `\t`, `\s` (a space), `\\` and `\xHH` stand for one byte.
 //
 // A writer writes at the start of `out` and answers how many bytes it wrote, or the whole of `out`
@@ -13,10 +13,6 @@ mod printing;
 pub use escapes::put;
 pub use files::put_header;
 pub use files::put_many;
-pub use lines::after;
-pub use lines::behind;
-pub use lines::first;
-pub use lines::is;
 pub use lines::is_case;
 pub use printing::print;
 pub use printing::print_three;

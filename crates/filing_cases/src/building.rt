@@ -3,15 +3,15 @@
 ghost use Prim.Native.Nat.{_≤_};
 ghost use lib.ListN.{length};
 use crate::report::case;
-use cases::after;
-use cases::behind;
-use cases::first;
-use cases::is;
 use cases::put;
 use cases::put_header;
 use cases::put_many;
 use cases::unreadable;
 use tables::File;
+use texts::after;
+use texts::behind;
+use texts::first;
+use texts::same_text;
 
 const LF: u8 = b'\n';
 
@@ -121,7 +121,7 @@ fn is_plain(byte: u8) -> bool {
 fn meaning(text: &[u8], mark: u8) -> &[u8] {
     let mut rest = text;
     while 0 < rest.len() {
-        if is(first(rest, COLON), &[mark]) {
+        if same_text(first(rest, COLON), &[mark]) {
             return after(first(rest, LF), COLON);
         }
         let next = behind(rest, LF);

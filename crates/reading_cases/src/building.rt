@@ -2,14 +2,14 @@
 ghost use Prim.Native.Nat.{_≤_};
 ghost use lib.ListN.{length};
 use crate::report::case;
-use cases::after;
-use cases::first;
-use cases::is;
 use cases::put;
 use cases::put_header;
 use cases::put_many;
 use cases::unreadable;
 use tables::File;
+use texts::after;
+use texts::first;
+use texts::same_text;
 
 const BLANK: u8 = b' ';
 
@@ -23,11 +23,11 @@ pub fn answer(line: &[u8]) {
     }
     let name = first(line, BLANK);
     let form = after(line, BLANK);
-    if is(name, b"constraint") {
+    if same_text(name, b"constraint") {
         one(File::Constraint, form);
-    } else if is(name, b"supply") {
+    } else if same_text(name, b"supply") {
         one(File::Supply, form);
-    } else if is(name, b"schedules") {
+    } else if same_text(name, b"schedules") {
         one(File::Schedules, form);
     } else {
         unreadable();
@@ -50,7 +50,7 @@ fn build(file: File, form: &[u8], out: &mut [u8]) -> usize
 {
     let name = first(form, BLANK);
     let rest = after(form, BLANK);
-    if is(name, b"file") {
+    if same_text(name, b"file") {
         return put(rest, out);
     }
     let mut at = put_header(file, out);
@@ -62,10 +62,10 @@ fn build(file: File, form: &[u8], out: &mut [u8]) -> usize
 fn rows(name: &[u8], text: &[u8], out: &mut [u8]) -> usize
     ensures { λ r. ⌜ r ≤ length (now (out .exit)) ⌝ }
 {
-    if is(name, b"rows") {
+    if same_text(name, b"rows") {
         return put(text, out);
     }
-    if is(name, b"many") {
+    if same_text(name, b"many") {
         return put_many(text, out);
     }
     out.len()

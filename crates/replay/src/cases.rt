@@ -10,12 +10,15 @@ use engine::Release;
 use engine::Released;
 use engine::Studied;
 use engine::Study;
+use texts::after;
+use texts::first;
 use transcript::buffers::fill;
 use transcript::buffers::put_file;
 use transcript::buffers::put_refused;
 use transcript::files;
 use transcript::files::FilesRead;
 use transcript::files::Lending;
+use transcript::naming::BLANK;
 use transcript::naming::Case;
 use transcript::naming::named;
 use transcript::numbers;
@@ -25,9 +28,6 @@ use transcript::output::put_ok;
 use transcript::output::put_refusal;
 use transcript::output::put_unreadable;
 use transcript::testing;
-use transcript::words::BLANK;
-use transcript::words::after;
-use transcript::words::first;
 
 // Answers a line.
 pub fn answer(line: &[u8], space: &mut [u8], buffer: &mut [u8], out: &mut [u8], at: usize) -> usize

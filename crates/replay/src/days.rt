@@ -8,14 +8,14 @@ use engine::LastHour;
 use engine::Running;
 use engine::Units;
 use tables::Kind;
+use texts::after;
+use texts::end;
+use texts::first;
+use texts::from;
+use texts::same_text;
 use transcript::output::put_byte;
 use transcript::output::put_number;
 use transcript::output::put_text;
-use transcript::words::after;
-use transcript::words::end;
-use transcript::words::first;
-use transcript::words::from;
-use transcript::words::is;
 
 // The most units that a day is read with.
 const MOST_UNITS: usize = 1000;
@@ -44,7 +44,7 @@ enum KindRead {
 }
 
 pub fn read(text: &[u8]) -> DayRead {
-    if is(text, b"-") {
+    if same_text(text, b"-") {
         return DayRead {
             is_read: true,
             day: Day::fresh(),
@@ -64,7 +64,7 @@ fn unreadable() -> DayRead {
 }
 
 fn read_hour(text: &[u8]) -> HourRead {
-    if is(text, b"n") {
+    if same_text(text, b"n") {
         return HourRead::Hour(LastHour::Fresh);
     }
     match numeral::read(text, 0, LARGEST) {
@@ -140,10 +140,10 @@ fn read_unit(text: &[u8]) -> UnitRead {
 }
 
 fn read_kind(text: &[u8]) -> KindRead {
-    if is(text, b"M") {
+    if same_text(text, b"M") {
         return KindRead::Kind(Kind::M);
     }
-    if is(text, b"C") {
+    if same_text(text, b"C") {
         return KindRead::Kind(Kind::C);
     }
     KindRead::Unreadable

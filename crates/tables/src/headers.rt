@@ -9,6 +9,7 @@ ghost use Rattle.tables.specs.Laying.{HeaderRead, FieldsCompared};
 ghost use lib.ListN.{take};
 use crate::files::File;
 use crate::rows::both;
+use texts::same_text;
 
 // A header that was read: whether every field has its name, and where the first row begins.
 pub struct Header {
@@ -68,20 +69,4 @@ fn next_field(s: &[u8]) -> usize
 {
     let n = csv::field_length(s);
     csv::after_field(s, n)
-}
-
-fn same_text(s: &[u8], t: &[u8]) -> bool
-    ensures { λ r. ⌜ r ≡ same (now (s .entry)) (now (t .entry)) ⌝ }
-{
-    if s.len() != t.len() {
-        return false;
-    }
-    let mut i = 0;
-    while i < s.len() {
-        if s[i] != t[i] {
-            return false;
-        }
-        i += 1;
-    }
-    true
 }

@@ -3,8 +3,8 @@ ghost use mathlib.Core.Path.{_≡_};
 ghost use Prim.Native.Nat.{_≤_, _<_};
 ghost use lib.ListN.{length};
 use crate::numbers;
-use crate::words::end;
-use crate::words::is;
+use texts::end;
+use texts::same_text;
 
 // How many amounts there are, if they were in the form.
 pub struct AmountsRead {
@@ -26,7 +26,7 @@ pub fn read(text: &[u8], amounts: &mut [u64]) -> AmountsRead
     if text.len() == 0 {
         return unreadable();
     }
-    if is(text, b" .") {
+    if same_text(text, b" .") {
         return AmountsRead {
             is_read: true,
             count: 0,

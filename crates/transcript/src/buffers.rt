@@ -3,11 +3,11 @@
 ghost use Prim.Native.Nat.{_≤_, _<_};
 ghost use lib.ListN.{length};
 use crate::hex::put_bytes;
+use crate::naming::BLANK;
 use crate::output::put_byte;
 use crate::output::put_ok;
 use crate::output::put_refusal;
 use crate::output::put_text;
-use crate::words::BLANK;
 use tables::Refusal;
 
 // No answer file holds this byte.

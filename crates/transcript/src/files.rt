@@ -2,9 +2,9 @@
 ghost use Prim.Native.Nat.{_≤_};
 ghost use lib.ListN.{length};
 use crate::hex::decode;
-use crate::words::BLANK;
-use crate::words::after;
-use crate::words::first;
+use crate::naming::BLANK;
+use texts::after;
+use texts::first;
 
 // Where the files stand, each behind the one before it, if all were in the form: the constraint from
 // the start on, then the others.

@@ -3,7 +3,7 @@ ghost use Prim.Native.Nat.{_+_, _*_, _≤_, _<_};
 ghost use mathlib.Core.Path.{_≡_};
 ghost use lib.ListN.{length};
 use crate::output::put_byte;
-use crate::words::is;
+use texts::same_text;
 
 const BASE: u8 = 16;
 
@@ -27,7 +27,7 @@ pub fn decode(text: &[u8], space: &mut [u8], at: usize) -> Decoded
     ensures { λ r. ⌜ at ≤ r .end ⌝ }
     ensures { λ r. ⌜ r .end ≤ length (now (space .exit)) ⌝ }
 {
-    if is(text, b".") {
+    if same_text(text, b".") {
         return Decoded {
             is_read: true,
             end: at,

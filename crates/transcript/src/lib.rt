@@ -10,4 +10,3 @@ pub mod naming;
 pub mod numbers;
 pub mod output;
 pub mod testing;
-pub mod words;

@@ -1,7 +1,9 @@
 // Which case a line asks, by its first word. Assumes nothing of the line.
-use crate::words::BLANK;
-use crate::words::first;
-use crate::words::is;
+use texts::first;
+use texts::same_text;
+
+// Between the words of a line.
+pub const BLANK: u8 = b' ';
 
 pub enum Case {
     Study,
@@ -13,16 +15,16 @@ pub enum Case {
 
 pub fn named(line: &[u8]) -> Case {
     let word = first(line, BLANK);
-    if is(word, b"study") {
+    if same_text(word, b"study") {
         return Case::Study;
     }
-    if is(word, b"check") {
+    if same_text(word, b"check") {
         return Case::Check;
     }
-    if is(word, b"release") {
+    if same_text(word, b"release") {
         return Case::Release;
     }
-    if is(word, b"test") {
+    if same_text(word, b"test") {
         return Case::Test;
     }
     Case::Unknown

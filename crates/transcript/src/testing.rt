@@ -3,16 +3,16 @@
 ghost use Prim.Native.Nat.{_≤_, _<_};
 ghost use lib.ListN.{length};
 use crate::amounts;
+use crate::naming::BLANK;
 use crate::numbers;
 use crate::output::put_number;
 use crate::output::put_ok;
 use crate::output::put_text;
 use crate::output::put_unreadable;
-use crate::words::BLANK;
-use crate::words::after;
-use crate::words::first;
-use crate::words::from;
 use pivotal::Verdict;
+use texts::after;
+use texts::first;
+use texts::from;
 
 // The most amounts that are read.
 const MOST_AMOUNTS: usize = 1000;

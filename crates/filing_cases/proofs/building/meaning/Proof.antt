@@ -16,11 +16,11 @@ loop-holds c = search needs
 first-requires : tie.Need-first-requires Inv-loop μ-loop
 first-requires c κs = search needs
 
-slice-aggregate-is : tie.Need-slice-aggregate-is Inv-loop μ-loop
-slice-aggregate-is c = search needs
+slice-aggregate-same-text : tie.Need-slice-aggregate-same-text Inv-loop μ-loop
+slice-aggregate-same-text c = search needs
 
-is-requires : tie.Need-is-requires Inv-loop μ-loop
-is-requires c κs = search needs
+same-text-requires : tie.Need-same-text-requires Inv-loop μ-loop
+same-text-requires c κs = search needs
 
 first-requires-2 : tie.Need-first-requires-2 Inv-loop μ-loop
 first-requires-2 c κs = search needs
@@ -60,8 +60,8 @@ meaning-spec =
     μ-loop
     loop-holds
     first-requires
-    slice-aggregate-is
-    is-requires
+    slice-aggregate-same-text
+    same-text-requires
     first-requires-2
     after-requires
     returns

@@ -4,9 +4,9 @@ use mathlib.Core.Path.{_≡_, refl, sym, _∙_}
 use native.Mathlib.Omega.{arith}
 use lib.ListN.{length, drop}
 use Rattle.base.specs.Text.{same}
-use Rattle.tables.proofs.HeaderLaws.{same-lengths, same-next, same-differs, same-end}
-use Rattle.tables.proofs.headers.same_text.Statement.{statement}
-use Rattle.tables.proofs.headers.same_text.Tie as tie
+use Rattle.texts.proofs.SameLaws.{same-lengths, same-next, same-differs, same-end}
+use Rattle.texts.proofs.comparing.same_text.Statement.{statement}
+use Rattle.texts.proofs.comparing.same_text.Tie as tie
 
 abbrev Inv-loop : tie.InvT-loop
 Inv-loop s t i₀ i = (i ≤ length s) × (same s t ≡ same (drop i s) (drop i t))

@@ -1,0 +1,10 @@
+// Texts compared, and taken apart at a byte.
+mod comparing;
+mod parting;
+
+pub use comparing::same_text;
+pub use parting::after;
+pub use parting::behind;
+pub use parting::end;
+pub use parting::first;
+pub use parting::from;

@@ -1,16 +1,16 @@
 -- Laws on lists beside the kit's: a list from a place on, and what lending a part of a slice makes of it. Assumes nothing.
 use Prim.Native.Nat.{ℕ, zero, suc, _+_, _-_, _≤_, _<_, zero-le}
-use mathlib.Core.Path.{_≡_, refl, sym, _∙_, ap}
+use mathlib.Core.Path.{_≡_, refl, sym, _∙_}
 use mathlib.Core.Logic.{⊎-elim}
 use mathlib.Core.Bool.{Bool, true, _&&_}
-use mathlib.Core.List.{List, [], _∷_, _++_, append-nil, map, List·Memᴰ as Among, List·Memᴰ·tail as later}
+use mathlib.Core.List.{List, [], _∷_, map, List·Memᴰ as Among, List·Memᴰ·tail as later}
 use native.Mathlib.Numerals.{add-one}
 use native.Mathlib.Omega.{arith}
 use lib.Dec.{leb}
 use borrow.Author.Tests.{leb-true}
 use Rattle.base.proofs.Tests.{and-fst, and-snd, lt-or-ge}
-use lib.ListN.{length, getD, take, drop, length-drop, length-append, drop-of-length-le, set}
-use lib.Seq.{drop-cons, take-all, drop-drop, getD-set-same, drop-set-lt, lt-length-set}
+use lib.ListN.{length, getD, take, drop, length-drop, drop-of-length-le, set}
+use lib.Seq.{drop-cons, take-all, getD-set-same, drop-set-lt, lt-length-set}
 
 module _ {A : Type 0} (d : A) where
   -- the list from i on, taken apart by the code's `i + 1`

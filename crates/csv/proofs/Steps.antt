@@ -9,7 +9,7 @@ use lib.Dec.{leb, eqb}
 use borrow.Author.Tests.{leb-true, le-leb, eqb-true, ne-eqb}
 use Rattle.base.proofs.Tests.{either, false-true, and-fst, and-snd}
 use Rattle.csv.specs.Grammar.{COMMA, CR, DQUOTE, LF, TEXTDATA, below-quote, below-comma, above-comma}
-use Rattle.csv.specs.Reading.{State, begin, plain, quoted, closing, ended, broken, textdata, Rest, byte, comma, crlf, next, grown, final, regular, rest}
+use Rattle.csv.specs.Reading.{State, begin, plain, quoted, closing, ended, broken, textdata, Rest, byte, comma, crlf, next, grown, regular, rest}
 
 -- a test's two outcomes
 abbrev Test : Bool → Type 0

@@ -1,11 +1,11 @@
 -- Laws of how the market stands, and of a unit's test in it. Assumes nothing.
-use Prim.Native.Nat.{ℕ, _+_, _*_, _≤_, _<_}
+use Prim.Native.Nat.{ℕ, _+_, _≤_, _<_}
 use mathlib.Core.Path.{_≡_, refl, sym, _∙_, ap}
-use mathlib.Core.Bool.{Bool, true, false, cond}
+use mathlib.Core.Bool.{true, false}
 use mathlib.Core.List.{List, _++_, map}
 use native.Mathlib.Omega.{arith}
 use borrow.Author.Tests.{lt-ltb, le-ltb}
-use lib.ListN.{length, take, drop, length-map}
+use lib.ListN.{take, drop, length-map}
 use lib.Seq.{take-at}
 use Rattle.base.specs.Writing.{Wrote}
 use Rattle.tables.specs.Rows.{ConstraintRow, SupplyRow, constraintRow, supplyRows}
@@ -13,12 +13,11 @@ use Rattle.tables.specs.Table.{columnAt, allColumns, constraintColumns, supplyC
 use Rattle.tables.proofs.RowViews.{supply-length}
 use Rattle.market.specs.Clearing.{needOf, short, clearing, clearingRow, eligibleSupply}
 use Rattle.market.specs.Parties.{parties, amountOf, amounts}
-use Rattle.offers.specs.Ranges.{SupplyCells, cellsRow, mostRelief}
+use Rattle.offers.specs.Ranges.{cellsRow, mostRelief}
 use Rattle.offers.proofs.CellLaws.{row-at}
 use Rattle.market.proofs.ClearingLaws.{clearing-clears}
-use Rattle.judge.specs.Decision.{need, untested, cleared}
+use Rattle.judge.specs.Decision.{untested, cleared}
 use Rattle.decision.specs.Standing.{MarketCells, standing, Stands}
-use Rattle.decision.specs.declared.standing.Standing.{Standing}
 use Rattle.decision.specs.declared.standing.Standing.the-variants.{Short, Cleared}
 
 module _ (constraint : List ℕ) (n : ℕ) (cells : List ℕ) (market : MarketCells constraint n cells) where

@@ -6,7 +6,7 @@ use mathlib.Core.List.{List}
 use lib.ListN.{length, take}
 use Rattle.tables.specs.Ranges.{PermittedConstraint}
 use Rattle.tables.specs.Rows.{ConstraintRow, SupplyRow, constraintRow, supplyRows}
-use Rattle.market.specs.Clearing.{needOf, clearing}
+use Rattle.market.specs.Clearing.{clearing}
 use Rattle.market.specs.Parties.{parties, amounts}
 use Rattle.offers.specs.Ranges.{SupplyCells}
 use Rattle.pivotal.specs.Test.{mostAmounts}

@@ -1,5 +1,4 @@
 // How the market stands, before any unit is looked at.
-ghost use mathlib.Core.Path.{_≡_};
 ghost use Prim.Native.Nat.{_≤_};
 ghost use lib.ListN.{length};
 ghost use Rattle.tables.specs.Rows.{constraintRow, supplyRows};

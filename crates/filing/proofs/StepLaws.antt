@@ -5,13 +5,12 @@ use mathlib.Core.List.{List, [], _∷_, _++_}
 use mathlib.Core.Option.{Option, none, some}
 use native.Mathlib.Omega.{arith}
 use lib.ListN.{length, getD, take}
-use Rattle.base.specs.Search.{firstOf, All, all-none, all-more}
+use Rattle.base.specs.Search.{firstOf}
 use Rattle.base.proofs.Searches.{first-of-none, option-map-none}
 use Rattle.tables.specs.Hours.{lastHour}
 use Rattle.tables.specs.Laying.{FileRead, room}
-use Rattle.tables.specs.Ranges.{PermittedSchedule}
 use Rattle.tables.specs.Reading.{refused, refusal, rows}
-use Rattle.tables.specs.Rows.{ScheduleRow, ConstraintRow, supplyRows, scheduleRows}
+use Rattle.tables.specs.Rows.{ConstraintRow, supplyRows, scheduleRows}
 use Rattle.tables.specs.declared.files.File.the-variants.{Constraint, Supply, Schedules}
 use Rattle.tables.specs.declared.files.Reading.{Reading}
 use Rattle.tables.specs.declared.files.Reading.the-variants.{Rows as RowsRead, Refused as NotRead}

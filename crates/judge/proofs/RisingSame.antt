@@ -2,7 +2,7 @@
 use Prim.Native.Nat.{ℕ, _<_}
 use mathlib.Core.Path.{_≡_, refl, sym, ap₂, subst}
 use mathlib.Core.Logic.{_⊎_, inl, inr, _↔_}
-use mathlib.Core.List.{List, [], _∷_, List·Memᴰ as Among, List·Memᴰ·head as first, List·Memᴰ·tail as later, List·Memᴰ·cases-cons as among-cases, List·Memᴰ·not-nil as among-none}
+use mathlib.Core.List.{List, _∷_, List·Memᴰ as Among, List·Memᴰ·head as first, List·Memᴰ·tail as later, List·Memᴰ·cases-cons as among-cases, List·Memᴰ·not-nil as among-none}
 use native.Mathlib.Omega.{arith}
 use Rattle.base.specs.Rising.{RisingFrom, RisingFrom.end, RisingFrom.next}
 

@@ -1,7 +1,7 @@
 -- Document 01, "Answer file": "The fixed layout is the header record of the example below, then one row per unit of the
 -- supply file. Unquoted, numerals as above, CR LF after every record, rows by rising unit." Here its rows, their text, and
 -- rows out of a flat run of cells, one row behind the other. Assumes nothing.
-use Prim.Native.Nat.{ℕ, _*_}
+use Prim.Native.Nat.{ℕ}
 use mathlib.Core.List.{List, [], _∷_, _++_, map}
 use lib.ListN.{getD}
 use Rattle.base.specs.Text.{bytes}

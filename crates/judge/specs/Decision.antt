@@ -3,7 +3,7 @@
 use Prim.Native.Nat.{ℕ}
 use mathlib.Core.Bool.{Bool, cond, _&&_, not}
 use mathlib.Core.List.{List, map}
-use mathlib.Core.Option.{Option, Option·map, Option·getD}
+use mathlib.Core.Option.{Option, Option·getD}
 use lib.Dec.{eqb}
 use Rattle.base.specs.Search.{any, find, first}
 use Rattle.tables.specs.Rows.{ConstraintRow, SupplyRow, ScheduleRow, letterOf}

@@ -18,7 +18,7 @@ use Rattle.market.specs.Parties.{party}
 use Rattle.offers.specs.Relevant.{relevant}
 use Rattle.market.specs.Removals.{Removes, remaining}
 use Rattle.offers.specs.Supply.{eligible}
-use Rattle.choice.specs.Exposure.{Verdict, U, P, F}
+use Rattle.choice.specs.Exposure.{U, P, F}
 use Rattle.choice.specs.Right.{RightChoice}
 use Rattle.judge.specs.Answer.{AnswerRow, verdictLetter, answerHeader, COMMA, CRLF}
 use Rattle.judge.specs.Day.{RunningUnit, DayView, kindRunning}

@@ -1,17 +1,17 @@
 -- Laws of linked rows: how they come to be linked, and the search along links. Assumes nothing.
-use Prim.Native.Nat.{ℕ, zero, suc, _+_, _-_, _*_, _≤_, _<_}
+use Prim.Native.Nat.{ℕ, zero, suc, _+_, _-_, _≤_, _<_}
 use mathlib.Core.Path.{_≡_, refl, sym, _∙_, ap}
 use mathlib.Core.Logic.{⊎-elim}
-use mathlib.Core.Bool.{Bool, true, false, cond, _||_, or-false}
+use mathlib.Core.Bool.{Bool, true, false, cond, _||_}
 use mathlib.Core.List.{List}
 use native.Mathlib.Omega.{arith}
 use native.Mathlib.Numerals.{add-one}
 use lib.Dec.{eqb}
-use lib.ListN.{length, getD, drop, set, replicate, length-set}
+use lib.ListN.{length, getD, set, replicate, length-set}
 use lib.Seq.{getD-set-same, getD-set-other, lt-length-set}
 use borrow.Author.Tests.{eq-eqb, ne-eqb, eqb-true}
 use Rattle.base.proofs.Tests.{either, eq-or-ne}
-use Rattle.links.specs.Links.{lastSame, mostLinked, Unlinked, rowLinked, Linked, LinkedTo, anyBefore, Leads, Along, unitKeys, byUnit, unitKey}
+use Rattle.links.specs.Links.{lastSame, mostLinked, Unlinked, rowLinked, Linked, LinkedTo, anyBefore, Leads, Along}
 
 -- a run of zeros has no row
 pub unlinked : (n i : ℕ) → getD {A = ℕ} (replicate n 0) i 0 ≡ 0

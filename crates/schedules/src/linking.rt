@@ -1,6 +1,5 @@
 // Schedule rows linked by their unit, or by their unit and schedule. Assumes that the run holds as
 // many rows as it is said to, and nothing of the cells.
-ghost use mathlib.Core.Path.{_≡_};
 ghost use Prim.Native.Nat.{_+_, _*_, _≤_};
 ghost use lib.ListN.{length};
 ghost use Rattle.links.specs.Links.{mostLinked, Unlinked, Linked, unitKeys, scheduleKeys, unitKey, scheduleKey};

@@ -1,5 +1,4 @@
 // The rules between supply rows, in the order of their numbers.
-ghost use mathlib.Core.Path.{_≡_};
 ghost use Prim.Native.Nat.{_*_, _≤_, _<_};
 ghost use lib.ListN.{length};
 ghost use Rattle.tables.specs.Rows.{supplyRows};

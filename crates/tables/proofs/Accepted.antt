@@ -1,19 +1,19 @@
 -- What holds of a file that reading doesn't refuse: its rows are as many as the table permits, each within the ranges, and
 -- they are what stands in the cells that reading laid down. Assumes nothing.
 use Prim.Native.Nat.{ℕ, _≤_}
-use mathlib.Core.Path.{_≡_, refl, sym, _∙_, ap, ap₂}
+use mathlib.Core.Path.{_≡_, refl, sym, _∙_, ap}
 use mathlib.Core.Bool.{Bool, true, false, cond, not, _&&_}
 use mathlib.Core.List.{List, [], _∷_, _++_, map, append-assoc}
 use mathlib.Core.Option.{Option, none, some, Option·map}
 use native.Mathlib.Omega.{arith}
 use lib.Dec.{eqb, leb}
-use lib.ListN.{length, take, drop}
+use lib.ListN.{length, drop}
 use lib.Seq.{take-at, drop-at}
 use borrow.Author.Tests.{leb-true, eqb-true}
-use Rattle.base.specs.Search.{first, firstOf, All, all-none, all-more}
+use Rattle.base.specs.Search.{first, All, all-none, all-more}
 use Rattle.base.proofs.Searches.{first-of-none, option-map-none, first-none-all}
 use Rattle.base.proofs.Tests.{and-fst, and-snd}
-use Rattle.csv.specs.Reading.{rfc4180, records}
+use Rattle.csv.specs.Reading.{records}
 use Rattle.tables.specs.Ranges.{PermittedCells}
 use Rattle.tables.specs.Reading.{
   refused,
@@ -31,7 +31,6 @@ use Rattle.tables.specs.Rows.{rowsOf}
 use Rattle.tables.specs.Table.{Column, table, header, width}
 use Rattle.tables.specs.Values.{cells, allCells, wellFormed}
 use Rattle.tables.specs.declared.files.File.{File}
-use Rattle.tables.specs.declared.files.Refusal.{Refusal}
 use Rattle.tables.proofs.Permitted.{row-permitted}
 use Rattle.tables.proofs.RowLaws.{cells-length}
 

@@ -1,10 +1,10 @@
 -- Laws of the table: what stands at a column's place in the code's tables is what the column says. Assumes nothing.
-use Prim.Native.Nat.{ℕ, _+_, _≤_, _<_}
+use Prim.Native.Nat.{ℕ, _≤_}
 use mathlib.Core.Path.{_≡_, refl, sym, _∙_, ap}
 use mathlib.Core.Bool.{true}
-use mathlib.Core.List.{List, [], _∷_, map}
+use mathlib.Core.List.{List, map}
 use native.Mathlib.Omega.{arith}
-use lib.ListN.{length, getD, drop, List·getD-map}
+use lib.ListN.{getD, List·getD-map}
 use Rattle.base.proofs.Lists.{allAtMost, at-most}
 use Rattle.numeral.specs.declared.Answer.{Answer}
 use Rattle.numeral.specs.Answers.{answer}

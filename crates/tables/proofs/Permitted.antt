@@ -1,17 +1,16 @@
 -- That the cells of a file that is read are within the table's ranges, and what that says of its rows by name. Assumes
 -- nothing.
 use Prim.Native.Nat.{ℕ, _+_, _-_, _≤_}
-use mathlib.Core.Path.{_≡_, refl, sym, _∙_, ap}
+use mathlib.Core.Path.{_≡_, refl}
 use mathlib.Core.Logic.{_⊎_, inl, inr}
-use mathlib.Core.Bool.{Bool, true, false, cond, not, _&&_}
-use mathlib.Core.List.{List, [], _∷_, map}
+use mathlib.Core.Bool.{Bool, true, false, cond}
+use mathlib.Core.List.{List, [], _∷_}
 use mathlib.Core.Option.{Option, none, some, Option·map, Option·getD}
 use native.Mathlib.Omega.{arith}
-use lib.Dec.{eqb, leb}
+use lib.Dec.{eqb}
 use lib.ListN.{length}
-use Rattle.base.specs.Search.{leading, All, all-none, all-more}
 use Rattle.base.specs.Text.{same}
-use Rattle.base.proofs.Tests.{and-fst, and-snd, false-true, either}
+use Rattle.base.proofs.Tests.{and-fst, and-snd, false-true}
 use Rattle.numeral.specs.Numeral.{number, within}
 use Rattle.numeral.proofs.Laws.{within-some}
 use Rattle.tables.specs.Ranges.{

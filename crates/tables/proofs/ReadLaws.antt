@@ -2,21 +2,21 @@
 use Prim.Native.Nat.{ℕ, suc, _+_, _-_, _*_, _≤_, _<_}
 use mathlib.Core.Path.{_≡_, refl, sym, _∙_, ap}
 use mathlib.Core.Logic.{⊎-elim}
-use mathlib.Core.Bool.{Bool, true, false, cond, not, _&&_}
+use mathlib.Core.Bool.{Bool, true, false, cond}
 use mathlib.Core.List.{List, [], _∷_, _++_, map}
-use mathlib.Core.Option.{Option, none, some, Option·map}
+use mathlib.Core.Option.{none, some}
 use native.Mathlib.Omega.{arith}
 use native.Mathlib.Nat.{mul-le-mul-right}
-use lib.Dec.{eqb, leb}
+use lib.Dec.{eqb}
 use lib.ListN.{length, take, drop, length-map}
 use borrow.Author.Tests.{eq-eqb, ne-eqb, le-leb, lt-leb}
-use Rattle.base.specs.Search.{first, leading, firstOf}
+use Rattle.base.specs.Search.{leading, firstOf}
 use Rattle.base.proofs.Lists.{rest-lent}
 use Rattle.base.proofs.Searches.{first-leading, leading-le}
-use Rattle.base.proofs.Tests.{either, and-fst, and-snd, false-true}
+use Rattle.base.proofs.Tests.{either, and-snd, false-true}
 use Rattle.base.specs.Text.{same}
 use Rattle.csv.specs.Reading.{begin, rfc4180, records, rest}
-use Rattle.csv.specs.Fields.{texts, passed, recordTexts}
+use Rattle.csv.specs.Fields.{texts, recordTexts}
 use Rattle.csv.specs.Scan.{fitting, scanned}
 use Rattle.csv.specs.declared.scanning.Shape.{Shape}
 use Rattle.csv.specs.declared.scanning.Shape.the-variants.{Regular, Irregular}
@@ -41,7 +41,6 @@ use Rattle.tables.specs.Laying.{HeaderRead, RowsLaid, FileRead, Shaped, 
 use Rattle.tables.proofs.AlikeValues.{header-alike, rows-alike, leading-alike}
 use Rattle.tables.specs.declared.files.File.{File}
 use Rattle.tables.specs.declared.files.Refusal.{Refusal}
-use Rattle.tables.specs.declared.files.Reading.{Reading}
 use Rattle.tables.specs.declared.files.Reading.the-variants.{Rows, Refused}
 use Rattle.tables.specs.declared.headers.Header.{Header}
 

@@ -1,20 +1,17 @@
 -- Laws of laying down rows, over plain lists: field by field, and row by row. Assumes nothing.
 use Prim.Native.Nat.{ℕ, zero, suc, _+_, _-_, _*_, _≤_, _<_}
 use mathlib.Core.Path.{_≡_, refl, sym, _∙_, ap}
-use mathlib.Core.Logic.{⊎-elim}
 use mathlib.Core.Bool.{Bool, true, false, _&&_, and-assoc, and-true}
 use mathlib.Core.List.{List, [], _∷_, _++_, append-assoc, append-nil}
-use mathlib.Core.Option.{Option·getD}
 use native.Mathlib.Omega.{arith}
 use native.Mathlib.Nat.{suc-mul}
 use native.Mathlib.Numerals.{add-one}
-use lib.ListN.{length, getD, take, drop, set, length-drop, length-take, length-set, length-append, take-append-drop}
+use lib.ListN.{length, take, drop, set, length-drop, length-take, length-set, length-append, take-append-drop}
 use lib.Seq.{drop-drop, getD-drop, getD-take, take-suc-set, drop-set-lt, append-snoc, take-at, drop-at, length-take-le}
 use lib.Dec.{eqb}
 use Rattle.base.specs.Search.{one, leading}
 use Rattle.base.proofs.Searches.{joined, joined-none, joined-more, one-le}
 use Rattle.base.proofs.Lists.{drop-next, drop-end, drop-back, rest-lent, rest-back}
-use Rattle.base.proofs.Tests.{lt-or-ge}
 use Rattle.csv.specs.Fields.{extent, inner, unread, texts, passed, recordTexts}
 use Rattle.numeral.specs.declared.Answer.{Answer}
 use Rattle.numeral.specs.declared.Answer.the-variants.{Number, Refused}

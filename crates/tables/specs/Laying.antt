@@ -1,7 +1,7 @@
 -- What the steps of reading a file promise: of a field, a row, several rows, the header, and the whole. Assumes nothing.
 use Prim.Native.Nat.{ℕ, _+_, _*_, _≤_}
 use mathlib.Core.Path.{_≡_}
-use mathlib.Core.Bool.{Bool, true, false}
+use mathlib.Core.Bool.{true, false}
 use mathlib.Core.List.{List, _++_}
 use mathlib.Core.Option.{none, Option·getD}
 use lib.ListN.{length, take, drop}

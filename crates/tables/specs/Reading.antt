@@ -2,14 +2,14 @@
 -- 1, 2, 4 and 3, in this order and each over the whole file. Assumes nothing.
 use Prim.Native.Nat.{ℕ}
 use mathlib.Core.Bool.{Bool, true, false, cond, not, _&&_}
-use mathlib.Core.List.{List, [], _∷_, _++_}
+use mathlib.Core.List.{List, [], _∷_}
 use mathlib.Core.Option.{Option, none, some, Option·map}
 use lib.Dec.{eqb, leb}
 use lib.ListN.{length, drop}
 use Rattle.base.specs.Search.{first, firstOf}
 use Rattle.base.specs.Text.{same}
 use Rattle.csv.specs.Reading.{rfc4180, records}
-use Rattle.tables.specs.Table.{Column, table, header, width}
+use Rattle.tables.specs.Table.{table, header, width}
 use Rattle.tables.specs.Values.{allCells, wellFormed}
 use Rattle.tables.specs.declared.files.File.{File}
 use Rattle.tables.specs.declared.files.Refusal.{Refusal}

@@ -1,7 +1,6 @@
 // The permitted range of each column, and the cell of a field by it.
 ghost use mathlib.Core.Path.{_≡_};
 ghost use Prim.Native.Nat.{_+_, _<_, _^_};
-ghost use lib.ListN.{getD};
 ghost use Rattle.numeral.specs.Answers.{answer};
 ghost use Rattle.tables.specs.Table.{firstColumn, columnAt};
 ghost use Rattle.tables.specs.Values.{value, excess as Values·excess, oneOf};

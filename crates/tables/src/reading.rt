@@ -1,6 +1,5 @@
 // Reading one file: the refusals 1, 2, 4 and 3, each over the whole file, then its rows as cells.
 ghost use mathlib.Core.Path.{_≡_};
-ghost use mathlib.Core.Bool.{true};
 ghost use Prim.Native.Nat.{_≤_, _<_};
 ghost use lib.ListN.{length};
 ghost use Rattle.tables.specs.Laying.{FileRead, Shaped, Counted, room};

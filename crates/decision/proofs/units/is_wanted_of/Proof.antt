@@ -1,5 +1,4 @@
 -- Whether a row is the unit's and wanted. Assumes nothing.
-use mathlib.Core.Path.{sym, _∙_}
 use borrow.Author.Needs.{needs}
 use Rattle.decision.proofs.units.is_wanted_of.Statement.{statement}
 use Rattle.decision.proofs.units.is_wanted_of.Tie as tie

@@ -2,13 +2,13 @@
 ghost use Prim.Native.Nat.{_≤_};
 ghost use lib.ListN.{length};
 use crate::escapes::put;
+use crate::lines::BLANK;
+use crate::lines::LF;
 use numeral::Answer;
 use tables::File;
 use texts::after;
+use texts::behind;
 use texts::first;
-
-// Between the words of a line.
-const BLANK: u8 = b' ';
 
 // The most times that a row may be wanted.
 const MOST: u64 = 9999;
@@ -50,5 +50,31 @@ fn repeat(count: u64, text: &[u8], out: &mut [u8]) -> usize
         at += put(text, &mut out[at..]);
         k += 1;
     }
+    at
+}
+
+// Writes the lines at the start of a text that are indented by two blanks, without these and with
+// CR LF behind each.
+pub fn put_indented(text: &[u8], out: &mut [u8]) -> usize
+    ensures { λ r. ⌜ r ≤ length (now (out .exit)) ⌝ }
+{
+    let mut at = 0;
+    let mut rest = text;
+    while 0 < rest.len() {
+        if rest[0] != BLANK {
+            return at;
+        }
+        at += put_row(first(rest, LF), &mut out[at..]);
+        let next = behind(rest, LF);
+        rest = &rest[next..];
+    }
+    at
+}
+
+fn put_row(line: &[u8], out: &mut [u8]) -> usize
+    ensures { λ r. ⌜ r ≤ length (now (out .exit)) ⌝ }
+{
+    let mut at = put(after(after(line, BLANK), BLANK), out);
+    at += put(b"\r\n", &mut out[at..]);
     at
 }

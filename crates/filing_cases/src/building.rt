@@ -3,6 +3,7 @@
 ghost use Prim.Native.Nat.{_≤_};
 ghost use lib.ListN.{length};
 use crate::report::case;
+use cases::LF;
 use cases::put;
 use cases::put_header;
 use cases::put_many;
@@ -12,8 +13,6 @@ use texts::after;
 use texts::behind;
 use texts::first;
 use texts::same_text;
-
-const LF: u8 = b'\n';
 
 const SEMICOLON: u8 = b';';
 

@@ -6,6 +6,7 @@
 ghost use Prim.Native.Nat.{_≤_, _<_};
 ghost use lib.ListN.{length};
 ghost use Rattle.offers.specs.Ranges.{SupplyCells};
+use cases::print;
 use libc::STDOUT_FILENO;
 use pivotal::Answer;
 use pivotal::Verdict;
@@ -121,8 +122,4 @@ fn print_tested(left: u64, verdict: Verdict) {
 pub fn print_number(before: &[u8], number: u64) {
     print(before);
     io::print_decimal(STDOUT_FILENO, number);
-}
-
-pub fn print(text: &[u8]) {
-    io::write_all(STDOUT_FILENO, text);
 }

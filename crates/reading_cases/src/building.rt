@@ -2,6 +2,7 @@
 ghost use Prim.Native.Nat.{_≤_};
 ghost use lib.ListN.{length};
 use crate::report::case;
+use cases::BLANK;
 use cases::put;
 use cases::put_header;
 use cases::put_many;
@@ -10,8 +11,6 @@ use tables::File;
 use texts::after;
 use texts::first;
 use texts::same_text;
-
-const BLANK: u8 = b' ';
 
 // Room for more than the longest file that a case builds, of 1,026 short rows.
 const FILE_BYTES: usize = 32768;

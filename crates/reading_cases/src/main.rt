@@ -12,11 +12,10 @@
 mod building;
 mod report;
 
+use cases::LF;
 use libc::STDIN_FILENO;
 use texts::behind;
 use texts::first;
-
-const LF: u8 = b'\n';
 
 // Room for all cases.
 const INPUT: usize = 65536;

@@ -53,9 +53,18 @@ fn repeat(count: u64, text: &[u8], out: &mut [u8]) -> usize
     at
 }
 
+// Writes the right header, and the rows that are indented at the start of a text.
+pub fn put_file(file: File, text: &[u8], out: &mut [u8]) -> usize
+    ensures { λ r. ⌜ r ≤ length (now (out .exit)) ⌝ }
+{
+    let mut at = put_header(file, out);
+    at += put_indented(text, &mut out[at..]);
+    at
+}
+
 // Writes the lines at the start of a text that are indented by two blanks, without these and with
 // CR LF behind each.
-pub fn put_indented(text: &[u8], out: &mut [u8]) -> usize
+fn put_indented(text: &[u8], out: &mut [u8]) -> usize
     ensures { λ r. ⌜ r ≤ length (now (out .exit)) ⌝ }
 {
     let mut at = 0;

@@ -12,8 +12,8 @@ mod lines;
 mod printing;
 
 pub use escapes::put;
+pub use files::put_file;
 pub use files::put_header;
-pub use files::put_indented;
 pub use files::put_many;
 pub use lines::BLANK;
 pub use lines::LF;

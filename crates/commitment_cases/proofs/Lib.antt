@@ -1,1 +1,1 @@
-pub mod FittingLaws
+pub mod ReadRows

@@ -1,13 +1,10 @@
 // A case, from its lines to what it is about. Assumes nothing of the lines.
-ghost use Prim.Native.Nat.{_≤_};
-ghost use lib.ListN.{length};
 use crate::report::case;
 use crate::report::print_number;
 use cases::BLANK;
 use cases::LF;
 use cases::print;
-use cases::put_header;
-use cases::put_indented;
+use cases::put_file;
 use cases::unreadable;
 use numeral::Answer;
 use tables::File;
@@ -76,18 +73,10 @@ fn supplied(relief: u64, cutoff: u64, rows: &[u8]) {
         return;
     }
     let mut supply = [0u8; FILE];
-    let count = build(rows, &mut supply);
+    let count = put_file(File::Supply, rows, &mut supply);
     if count == FILE {
         unreadable();
         return;
     }
     case(relief, cutoff, &supply[0..count]);
-}
-
-fn build(rows: &[u8], out: &mut [u8]) -> usize
-    ensures { λ r. ⌜ r ≤ length (now (out .exit)) ⌝ }
-{
-    let mut at = put_header(File::Supply, out);
-    at += put_indented(rows, &mut out[at..]);
-    at
 }

@@ -1,42 +1,54 @@
--- A case: its rows are in their ranges by a test that computes. Assumes nothing.
-use Rattle.commitment_cases.proofs.FittingLaws.{unit-rows}
+-- The lines, one a turn: what is left of the text gets shorter. Assumes nothing.
+use lib.ListN.{length}
 use borrow.Author.Needs.{needs}
 use Rattle.commitment_cases.proofs.run.Statement.{statement}
 use Rattle.commitment_cases.proofs.run.Tie as tie
 
-choose-requires : tie.Need-choose-requires
-choose-requires c κs = unit-rows _ _ (c .before .pre)
+abbrev Inv-loop : tie.InvT-loop
+Inv-loop text rest₀ rest = Unit {0}
 
-enum-known-c : tie.Need-enum-known-c
-enum-known-c c = search needs
+abbrev μ-loop : tie.MeasureT-loop
+μ-loop text rest₀ rest = length rest
 
-print-choice-requires : tie.Need-print-choice-requires
-print-choice-requires c κs = search needs
+loop-holds : tie.Need-loop-holds Inv-loop μ-loop
+loop-holds c = search needs
 
-enum-told : tie.Need-enum-told
-enum-told c = search needs
+answer-requires : tie.Need-answer-requires Inv-loop μ-loop
+answer-requires c κs = search needs
 
-slice-aggregate-print : tie.Need-slice-aggregate-print
-slice-aggregate-print c = search needs
+behind-requires : tie.Need-behind-requires Inv-loop μ-loop
+behind-requires c κs = search needs
 
-print-requires : tie.Need-print-requires
-print-requires c κs = search needs
+sub-rest : tie.Need-sub-rest Inv-loop μ-loop
+sub-rest c = search needs
 
-returns : tie.Need-returns
+part-rest-start : tie.Need-part-rest-start Inv-loop μ-loop
+part-rest-start c = search needs
+
+part-rest-end : tie.Need-part-rest-end Inv-loop μ-loop
+part-rest-end c = search needs
+
+loop-less : tie.Need-loop-less Inv-loop μ-loop
+loop-less c = search needs
+
+loop-again : tie.Need-loop-again Inv-loop μ-loop
+loop-again c = search needs
+
+returns : tie.Need-returns Inv-loop μ-loop
 returns c = search needs
-
-returns-2 : tie.Need-returns-2
-returns-2 c = search needs
 
 pub run-spec : {M : Type 1} → statement M
 run-spec =
     tie.close
     (tie.spec
-    choose-requires
-    enum-known-c
-    print-choice-requires
-    enum-told
-    slice-aggregate-print
-    print-requires
-    returns
-    returns-2)
+    Inv-loop
+    μ-loop
+    loop-holds
+    answer-requires
+    behind-requires
+    sub-rest
+    part-rest-start
+    part-rest-end
+    loop-less
+    loop-again
+    returns)

@@ -2,14 +2,14 @@
 use crate::report::case;
 use cases::BLANK;
 use cases::LF;
-use texts::after;
-use texts::first;
-use texts::same_text;
 use cases::put_file;
 use cases::unreadable;
 use choice::DayKind;
 use numeral::Answer;
 use tables::File;
+use texts::after;
+use texts::first;
+use texts::same_text;
 
 // The last hour of a day.
 const LAST: u64 = 23;

@@ -10,8 +10,8 @@ mod answering;
 mod report;
 
 use cases::LF;
-use texts::behind;
 use libc::STDIN_FILENO;
+use texts::behind;
 
 // Room for all cases.
 const INPUT: usize = 65536;

@@ -13,7 +13,6 @@ mod report;
 use cases::LF;
 use libc::STDIN_FILENO;
 use texts::behind;
-use texts::first;
 
 // Room for all cases.
 const INPUT: usize = 65536;

@@ -5,6 +5,7 @@ ghost use lib.ListN.{length, getD};
 ghost use Rattle.tables.specs.Rows.{kindOf};
 ghost use Rattle.commitment.specs.Ranges.{rowCells, rowAt};
 use tables::Kind;
+use tables::kind_of;
 
 const WIDTH: usize = 9;
 
@@ -24,9 +25,6 @@ pub const STARTUP: usize = 7;
 
 pub const MINRUN: usize = 8;
 
-// The letter of a market-based schedule.
-const M: u64 = 0x4D;
-
 // A cell of the row at `i`.
 pub fn cell(cells: &[u64], i: usize, column: usize) -> u64
     requires { ⌜ i * 9 + 9 ≤ length (now cells) ⌝ }
@@ -41,9 +39,5 @@ pub fn kind(cells: &[u64], i: usize) -> Kind
     requires { ⌜ i * 9 + 9 ≤ length (now cells) ⌝ }
     ensures { λ r. ⌜ r ≡ kindOf (rowAt (now (cells .entry)) i .kind) ⌝ }
 {
-    if cell(cells, i, KIND) == M {
-        Kind::M
-    } else {
-        Kind::C
-    }
+    kind_of(cell(cells, i, KIND))
 }

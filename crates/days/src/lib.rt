@@ -3,10 +3,10 @@
 mod making;
 mod printing;
 
-pub use making::C;
-pub use making::M;
 pub use making::day;
 pub use making::full;
 pub use printing::print;
 pub use printing::print_day;
 pub use printing::print_refusal;
+pub use tables::C;
+pub use tables::M;

@@ -5,11 +5,7 @@ use engine::LastHour;
 use engine::Running;
 use engine::Units;
 use tables::Kind;
-
-// The letters of the kinds.
-pub const M: u64 = 0x4D;
-
-pub const C: u64 = 0x43;
+use tables::kind_of;
 
 // The numbers of a unit: its own, its schedule's, and the letter of its kind.
 const WIDTH: usize = 3;
@@ -64,8 +60,4 @@ fn on_m(i: usize) -> Running
         schedule: 1,
         kind: Kind::M,
     }
-}
-
-fn kind_of(letter: u64) -> Kind {
-    if letter == M { Kind::M } else { Kind::C }
 }

@@ -13,11 +13,10 @@ use choice::Kinds;
 use commitment::choose;
 use commitment::has_any;
 use tables::Kind;
+use tables::M;
 
-// The cell of a unit that doesn't run, and the letter of one that runs on a market-based schedule.
+// The cell of a unit that doesn't run.
 const NOT_RUNNING: u64 = 0;
-
-const M: u64 = 0x4D;
 
 fn day_kind(cell: u64) -> DayKind
     ensures { λ r. ⌜ kindIn r ≡ kindAt cell ⌝ }

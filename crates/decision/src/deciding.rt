@@ -3,7 +3,7 @@ ghost use mathlib.Core.Path.{_≡_};
 ghost use mathlib.Core.List.{_++_};
 ghost use Prim.Native.Nat.{_*_, _≤_};
 ghost use lib.ListN.{length, take, drop};
-ghost use Rattle.tables.specs.Rows.{constraintRow, supplyRows, scheduleRows, letterOf};
+ghost use Rattle.tables.specs.Rows.{constraintRow, supplyRows, scheduleRows};
 ghost use Rattle.links.specs.Links.{Linked, unitKeys, unitKey};
 ghost use Rattle.schedules.specs.Schedules.{own as Schedules·own};
 ghost use Rattle.commitment.specs.Ranges.{UnitRows};
@@ -24,7 +24,7 @@ use gathering::gather;
 use links::UNIT_LINKS;
 use running::Units;
 use schedules::link_units;
-use tables::Kind;
+use tables::letter_of;
 
 // The most parties whose amounts are tested.
 const PARTIES: usize = 32;
@@ -34,11 +34,6 @@ const SCHEDULE_CELLS: usize = 9216;
 
 // The cells of a row of the answer.
 const WIDTH: usize = 7;
-
-// The letters of the kinds.
-const M: u64 = 0x4D;
-
-const C: u64 = 0x43;
 
 // Every unit is decided, or a unit that runs on cost has no C schedule.
 pub enum Decided {
@@ -194,15 +189,6 @@ fn lay_row(unit: u64, test: UnitTest, choice: Choice, row: &mut [u64])
     row[2] = test.verdict;
     row[3] = test.left;
     row[4] = choice.schedule;
-    row[5] = letter(kind);
+    row[5] = letter_of(kind);
     row[6] = choice.cost;
-}
-
-fn letter(kind: Kind) -> u64
-    ensures { λ r. ⌜ r ≡ letterOf kind ⌝ }
-{
-    match kind {
-        Kind::M => M,
-        Kind::C => C,
-    }
 }

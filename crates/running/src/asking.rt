@@ -6,10 +6,10 @@ ghost use lib.ListN.{length, take};
 ghost use Rattle.judge.specs.Day.{mostRunning, kindRunning, wouldRun};
 ghost use Rattle.running.specs.Asking.{kindCell, KindsLaid, newcomers};
 ghost use Rattle.running.specs.View.{unitsOf};
-use crate::kinds::C;
-use crate::kinds::M;
 use crate::units::Units;
+use tables::C;
 use tables::Kind;
+use tables::M;
 
 // The cell of a unit that isn't running.
 const NOT_RUNNING: u64 = 0;

@@ -10,9 +10,9 @@ ghost use Rattle.judge.specs.Study.{chosen as Study·chosen};
 ghost use Rattle.running.specs.Committing.{answerAt, choices, Fits, anyLeft, Turns};
 ghost use Rattle.running.specs.Forming.{unitsFormed};
 ghost use Rattle.running.specs.View.{unitOf, unitsOf};
-use crate::kinds::kind_of;
 use crate::units::Running;
 use crate::units::Units;
+use tables::kind_of;
 
 // The cells of an answer's row, and those of them that a day keeps.
 const WIDTH: usize = 7;

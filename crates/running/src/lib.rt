@@ -3,7 +3,6 @@
 mod asking;
 mod committing;
 mod forming;
-mod kinds;
 mod places;
 mod units;
 

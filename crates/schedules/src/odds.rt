@@ -19,9 +19,7 @@ use crate::rows::SCHEDULE;
 use crate::rows::STARTUP;
 use crate::rows::UNIT;
 use crate::rows::cell;
-
-// The letter of a market-based schedule.
-const MARKET: u64 = 77;
+use tables::M;
 
 // The first row at odds with an earlier one, counted from 1; 0 where there is none.
 pub fn schedules_at_odds(cells: &[u64], n: usize, by_unit: &[usize], by_schedule: &[usize]) -> usize
@@ -48,7 +46,7 @@ fn at_odds_before(cells: &[u64], k: usize, by_unit: &[usize], by_schedule: &[usi
     requires { ⌜ LinkedTo (scheduleKey (now cells)) k (now «by_schedule») ⌝ }
     ensures { λ r. ⌜ r ≡ any (scheduleOdds (scheduleAt (now (cells .entry)) k)) (earlier (now (cells .entry)) k) ⌝ }
 {
-    if cell(cells, k, KIND) == MARKET {
+    if cell(cells, k, KIND) == M {
         return at_odds_along(cells, k, by_unit);
     }
     at_odds_along(cells, k, by_schedule)
@@ -95,10 +93,10 @@ fn both_market(cells: &[u64], k: usize, j: usize) -> bool
     requires { ⌜ j * 9 + 9 ≤ length (now cells) ⌝ }
     ensures { λ r. ⌜ r ≡ bothMarket (scheduleAt (now (cells .entry)) k) (scheduleAt (now (cells .entry)) j) ⌝ }
 {
-    if cell(cells, k, KIND) != MARKET {
+    if cell(cells, k, KIND) != M {
         return false;
     }
-    cell(cells, j, KIND) == MARKET
+    cell(cells, j, KIND) == M
 }
 
 // Whether rows of one schedule differ in what they are to share.

@@ -3,6 +3,7 @@
 mod columns;
 mod files;
 mod headers;
+mod kinds;
 mod reading;
 mod rows;
 
@@ -20,4 +21,8 @@ pub use files::fewest_rows;
 pub use files::most_rows;
 pub use files::number;
 pub use files::width;
+pub use kinds::C;
+pub use kinds::M;
+pub use kinds::kind_of;
+pub use kinds::letter_of;
 pub use reading::read;

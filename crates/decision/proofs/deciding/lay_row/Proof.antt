@@ -39,8 +39,8 @@ slice-write-row-5 c =
     let four = set three 2 (start .test .verdict) in
     omega (arith, length-set one 0 (start .unit), length-set two 1 (start .test .supplier), length-set three 2 (start .test .verdict), length-set four 3 (start .test .left))
 
-letter-requires : tie.Need-letter-requires
-letter-requires c κs = search needs
+letter-of-requires : tie.Need-letter-of-requires
+letter-of-requires c κs = search needs
 
 slice-write-row-6 : tie.Need-slice-write-row-6
 slice-write-row-6 c =
@@ -59,7 +59,7 @@ same-length : tie.Need-same-length
 same-length c = search needs
 
 returns : tie.Need-returns
-returns c = rw (← c .letter .ensures) (laid-seven (c .before .before .args .row .now) _ _ _ _ _ _ _ (omega arith))
+returns c = rw (← c .letter-of .ensures) (laid-seven (c .before .before .args .row .now) _ _ _ _ _ _ _ (omega arith))
 
 pub lay-row-spec : {M : Type 1} → statement M
 lay-row-spec =
@@ -70,7 +70,7 @@ lay-row-spec =
     slice-write-row-3
     slice-write-row-4
     slice-write-row-5
-    letter-requires
+    letter-of-requires
     slice-write-row-6
     slice-write-row-7
     same-length

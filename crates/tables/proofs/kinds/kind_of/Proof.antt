@@ -1,8 +1,8 @@
 -- A kind by its letter. Assumes nothing.
 use borrow.Author.Tests.{eq-eqb, ne-eqb}
 use Rattle.tables.specs.Rows.{kindOf}
-use Rattle.running.proofs.kinds.kind_of.Statement.{statement}
-use Rattle.running.proofs.kinds.kind_of.Tie as tie
+use Rattle.tables.proofs.kinds.kind_of.Statement.{statement}
+use Rattle.tables.proofs.kinds.kind_of.Tie as tie
 
 returns : tie.Need-returns
 unfolding kindOf

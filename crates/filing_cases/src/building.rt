@@ -26,9 +26,11 @@ pub fn answer(text: &[u8], line: &[u8]) {
     if !cases::is_case(line) {
         return;
     }
+    // A line with a colon says what a mark stands for.
     if first(line, COLON).len() < line.len() {
         return;
     }
+    // A case has two semicolons.
     let rest = after(line, SEMICOLON);
     if first(rest, SEMICOLON).len() == rest.len() {
         unreadable();

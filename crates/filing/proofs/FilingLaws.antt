@@ -20,12 +20,13 @@ use Rattle.tables.specs.declared.files.Reading.{Reading}
 use Rattle.tables.specs.declared.files.Reading.the-variants.{Rows as RowsRead, Refused as NotRead}
 use Rattle.tables.proofs.Accepted.{accepted}
 use Rattle.supply.specs.Checks.{unless, supplyChecked}
-use Rattle.schedules.specs.Checks.{runsChecked, schedulesChecked}
+use Rattle.runs.specs.Checks.{runsChecked, schedulesChecked}
 use Rattle.supply.specs.declared.checks.SupplyCheck.the-variants.{Passed, Crowded, AtOdds}
-use Rattle.schedules.specs.declared.checks.ScheduleCheck.the-variants.{Passed as SchedulesPassed, AtOdds as SchedulesAtOdds, Strange, Unscheduled, Lacking}
+use Rattle.runs.specs.declared.checks.ScheduleCheck.the-variants.{Passed as SchedulesPassed, AtOdds as SchedulesAtOdds, Strange, Unscheduled, Lacking}
 use Rattle.filing.specs.Filed.{ConstraintKept, SchedulesKept, supplyRefusal, schedulesRefusal, supplyUnless, schedulesUnless, supplyAnswer, schedulesAnswer}
 use Rattle.filing.specs.Filing.{rowCells, constraintOf, supplyOf, schedulesOf}
-use Rattle.schedules.specs.Schedules.{schedulesAtOdds, strange, unscheduled, lacking}
+use Rattle.schedules.specs.Schedules.{schedulesAtOdds, strange, unscheduled}
+use Rattle.runs.specs.Runs.{lacking}
 use Rattle.supply.specs.Supply.{units, crowded, supplyAtOdds}
 
 -- what reading a file answered

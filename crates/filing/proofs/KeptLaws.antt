@@ -22,7 +22,8 @@ use Rattle.tables.proofs.Accepted.{accepted}
 use Rattle.tables.proofs.Permitted as Permitted
 use Rattle.filing.specs.Filing.{rowCells, constraintOf, supplyOf, schedulesOf, filingRefusal}
 use Rattle.filing.specs.Kept.{Kept}
-use Rattle.schedules.specs.Schedules.{schedulesAtOdds, strange, unscheduled, lacking}
+use Rattle.schedules.specs.Schedules.{schedulesAtOdds, strange, unscheduled}
+use Rattle.runs.specs.Runs.{lacking}
 use Rattle.supply.specs.Supply.{mostUnits, mostSuppliers, units, unitsFrom, suppliers, suppliersFrom, crowded, crowdedFrom, supplyAtOdds}
 use Rattle.supply.specs.SupplyPromises.{tooMany}
 use Rattle.filing.proofs.FilingLaws.{rows-count, supply-count, schedules-count}

@@ -17,12 +17,12 @@ use Rattle.tables.specs.declared.files.Reading.the-variants.{Rows as RowsRead, 
 use Rattle.tables.specs.declared.files.Refusal.{Refusal}
 use Rattle.tables.proofs.Accepted.{accepted}
 use Rattle.supply.specs.Checks.{SupplyChecked}
-use Rattle.schedules.specs.Checks.{InRanges, schedulesChecked}
+use Rattle.runs.specs.Checks.{InRanges, schedulesChecked}
 use Rattle.filing.specs.Filed.{ConstraintKept, SupplyFiled, SchedulesFiled, RowsFiled, FilesFiled, supplyRefusal, schedulesRefusal, rowsRefusal, filed, filedUnless, supplyUnless, schedulesUnless, supplyAnswer, schedulesAnswer, rowsAnswer}
 use Rattle.filing.specs.Filing.{constraintOf, supplyOf, schedulesOf, filingRefusal}
 use Rattle.supply.specs.Supply.{mostUnits, units, crowded}
 use Rattle.supply.specs.declared.checks.SupplyCheck.{SupplyCheck}
-use Rattle.schedules.specs.declared.checks.ScheduleCheck.{ScheduleCheck}
+use Rattle.runs.specs.declared.checks.ScheduleCheck.{ScheduleCheck}
 use Rattle.filing.specs.declared.files.Filed.{Filed}
 use Rattle.filing.specs.declared.files.Filed.the-variants.{Refused}
 use Rattle.filing.specs.declared.files.SupplyFiling.{SupplyFiling}

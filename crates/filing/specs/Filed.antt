@@ -6,10 +6,11 @@ use mathlib.Core.Option.{Option, none, some, Option·map}
 use lib.ListN.{length, take}
 use Rattle.base.specs.Search.{firstOf}
 use Rattle.filing.specs.Filing.{constraintOf, supplyOf, schedulesOf, filingRefusal}
-use Rattle.schedules.specs.Schedules.{schedulesAtOdds, strange, unscheduled, lacking}
+use Rattle.schedules.specs.Schedules.{schedulesAtOdds, strange, unscheduled}
+use Rattle.runs.specs.Runs.{lacking}
 use Rattle.supply.specs.Supply.{units as unitsOf, crowded, supplyAtOdds}
-use Rattle.schedules.specs.declared.checks.ScheduleCheck.{ScheduleCheck}
-use Rattle.schedules.specs.declared.checks.ScheduleCheck.the-variants.{Passed as SchedulesPassed, AtOdds as SchedulesAtOdds, Strange, Unscheduled, Lacking}
+use Rattle.runs.specs.declared.checks.ScheduleCheck.{ScheduleCheck}
+use Rattle.runs.specs.declared.checks.ScheduleCheck.the-variants.{Passed as SchedulesPassed, AtOdds as SchedulesAtOdds, Strange, Unscheduled, Lacking}
 use Rattle.supply.specs.declared.checks.SupplyCheck.{SupplyCheck}
 use Rattle.supply.specs.declared.checks.SupplyCheck.the-variants.{Passed, Crowded, AtOdds}
 use Rattle.filing.specs.declared.files.Filed.{Filed}

@@ -13,7 +13,8 @@ use Rattle.tables.specs.declared.files.File.{File}
 use Rattle.tables.specs.declared.files.File.the-variants.{Constraint, Supply, Schedules}
 use Rattle.tables.specs.declared.files.Refusal.{Refusal}
 use Rattle.supply.specs.Supply.{units, crowded, supplyAtOdds}
-use Rattle.schedules.specs.Schedules.{schedulesAtOdds, strange, unscheduled, lacking}
+use Rattle.schedules.specs.Schedules.{schedulesAtOdds, strange, unscheduled}
+use Rattle.runs.specs.Runs.{lacking}
 
 -- a file's rows as cells
 unfoldable pub rowCells : File → List ℕ → List (List ℕ)

@@ -11,7 +11,8 @@ use Rattle.tables.specs.Reading.{refusal}
 use Rattle.tables.specs.Table.{table}
 use Rattle.tables.specs.declared.files.File.the-variants.{Constraint, Supply, Schedules}
 use Rattle.filing.specs.Filing.{constraintOf, supplyOf, schedulesOf}
-use Rattle.schedules.specs.Schedules.{schedulesAtOdds, strange, unscheduled, lacking}
+use Rattle.schedules.specs.Schedules.{schedulesAtOdds, strange, unscheduled}
+use Rattle.runs.specs.Runs.{lacking}
 use Rattle.supply.specs.Supply.{mostUnits, mostSuppliers, units, suppliers, crowded, supplyAtOdds}
 
 pub record Kept (c s h : List ℕ) : Type 0 where

@@ -14,7 +14,8 @@ use Rattle.base.proofs.Tests.{false-true, and-fst, and-snd}
 use Rattle.tables.specs.Hours.{lastHour, runEnd}
 use Rattle.tables.specs.Ranges.{PermittedSchedule}
 use Rattle.tables.specs.Rows.{ScheduleRow}
-use Rattle.schedules.specs.Schedules.{sameSchedule, scheduleOdds, schedulesAtOdds, own, unscheduled, hasHours, hasRun, lacking}
+use Rattle.schedules.specs.Schedules.{sameSchedule, scheduleOdds, schedulesAtOdds, own, unscheduled}
+use Rattle.runs.specs.Runs.{hasHours, hasRun, lacking}
 use Rattle.schedules.proofs.OddsLaws.{odds-hours}
 use Rattle.choice.specs.Right.{OneRowEach}
 use Rattle.choice.specs.Schedules.{atHour, schedules}

@@ -12,7 +12,8 @@ use Rattle.tables.specs.Rows.{ConstraintRow, SupplyRow, ScheduleRow}
 use Rattle.tables.specs.declared.files.File.the-variants.{Schedules}
 use Rattle.filing.specs.Filing.{constraintOf, supplyOf, schedulesOf, filingRefusal}
 use Rattle.filing.specs.Kept.{Kept}
-use Rattle.schedules.specs.Schedules.{schedulesAtOdds, unscheduled, lacking}
+use Rattle.schedules.specs.Schedules.{schedulesAtOdds, unscheduled}
+use Rattle.runs.specs.Runs.{lacking}
 use Rattle.supply.specs.Supply.{units, supplyAtOdds}
 use Rattle.filing.proofs.KeptLaws.{kept}
 use Rattle.market.specs.Clearing.{needOf}

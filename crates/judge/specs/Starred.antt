@@ -20,6 +20,7 @@ use Rattle.choice.specs.Schedules.{
   eligible as eligibleSchedule,
 }
 use Rattle.filing.specs.Filing.{filing·all}
+use Rattle.runs.specs.Runs.{runs·all}
 use Rattle.schedules.specs.Schedules.{schedules·all}
 use Rattle.supply.specs.Supply.{supply·all}
 use Rattle.judge.specs.Answer.{answer·all}
@@ -99,7 +100,7 @@ unfolding inRun offerPrice price hourCost runningCost inItsRun share runCost sta
 choice·all = tt
 
 unfoldable engine·all : Unit {0}
-unfolding starred·all rising·all supply·all schedules·all filing·all market·all test·all choice·all day·all answer·all decision·all study·all
+unfolding starred·all rising·all supply·all schedules·all runs·all filing·all market·all test·all choice·all day·all answer·all decision·all study·all
 engine·all = tt
 
 -- "Example ★: .. prints"

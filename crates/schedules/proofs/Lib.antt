@@ -1,6 +1,4 @@
-pub mod CheckLaws
 pub mod OddsLaws
 pub mod PlaceLaws
-pub mod RunLaws
 pub mod ScheduleLaws
 pub mod SearchLaws

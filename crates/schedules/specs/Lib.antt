@@ -1,5 +1,2 @@
 pub mod Answers
-pub mod Checks
-pub mod Ranges
-pub mod Runs
 pub mod Schedules

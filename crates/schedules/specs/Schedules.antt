@@ -1,15 +1,13 @@
 -- Document 01, "Files": what schedule rows must be to each other and to supply: "Rows of one schedule share kind, startup
--- and minrun; no two share the hour. A unit has at most one M schedule. With study hour h, a schedule's run is the hours
--- from h to the lesser of h + minrun - 1 and 23, and every schedule has a row for each." A schedule is a unit's, by its
--- number. Assumes nothing.
-use Prim.Native.Nat.{ℕ, zero, suc, _-_}
-use mathlib.Core.Bool.{Bool, true, not, _&&_, _||_}
+-- and minrun; no two share the hour. A unit has at most one M schedule." A schedule is a unit's, by its number. What else the
+-- paper says of a schedule, its run, is in the crate `runs`. Assumes nothing.
+use Prim.Native.Nat.{ℕ}
+use mathlib.Core.Bool.{Bool, not, _&&_, _||_}
 use mathlib.Core.List.{List, []}
 use mathlib.Core.Option.{Option}
 use lib.Dec.{eqb}
 use Rattle.base.specs.Rising.{among}
 use Rattle.base.specs.Search.{first, any, find, those, firstAtOdds}
-use Rattle.tables.specs.Hours.{runEnd}
 use Rattle.tables.specs.Rows.{ScheduleRow}
 use Rattle.tables.specs.Table.{M}
 
@@ -50,20 +48,7 @@ own u rs = those (λ (r : ScheduleRow). eqb (r .unit) u) rs
 unfoldable pub unscheduled : List ℕ → List ScheduleRow → Option ℕ
 unscheduled us rs = find (λ (u : ℕ). not (any (λ (r : ScheduleRow). eqb (r .unit) u) rs)) us
 
--- n hours from k on, each with a row of the schedule of r
-unfoldable pub hasHours : ScheduleRow → ℕ → ℕ → List ScheduleRow → Bool
-hasHours r k zero rs = true
-hasHours r k (suc n) rs = any (λ (e : ScheduleRow). sameSchedule r e && eqb (e .hour) k) rs && hasHours r (suc k) n rs
-
--- whether the schedule of r has a row for each hour of its run from h on
-unfoldable pub hasRun : ℕ → List ScheduleRow → ScheduleRow → Bool
-hasRun h rs r = hasHours r h (suc (runEnd h (r .minrun)) - h) rs
-
--- 9: "schedule lacking a needed hour (file 3, lowest such unit)", of units by rising number
-unfoldable pub lacking : ℕ → List ℕ → List ScheduleRow → Option ℕ
-lacking h us rs = find (λ (u : ℕ). any (λ (r : ScheduleRow). not (hasRun h (own u rs) r)) (own u rs)) us
-
 -- opens all of the above, for examples that compute
 unfoldable pub schedules·all : Unit {0}
-unfolding sameSchedule unlike repeats secondM scheduleOdds schedulesAtOdds strange own unscheduled hasHours hasRun lacking runEnd
+unfolding sameSchedule unlike repeats secondM scheduleOdds schedulesAtOdds strange own unscheduled
 schedules·all = tt

@@ -5,19 +5,19 @@ use mathlib.Core.Path.{_≡_, refl, sym, _∙_, ap}
 use mathlib.Core.List.{List, [], _∷_, _++_, append-assoc, append-nil}
 use native.Mathlib.Numerals.{add-one}
 use native.Mathlib.Omega.{arith}
-use lib.ListN.{length, take, drop, take-append-drop, length-append, length-map}
+use lib.ListN.{length, take, drop, take-append-drop, length-append}
 use lib.Seq.{take-all}
 use Rattle.base.specs.Search.{All}
-use Rattle.base.proofs.Lists.{drop-map, drop-end}
+use Rattle.base.proofs.Lists.{drop-end}
 use Rattle.base.proofs.Searches.{all-drop, all-head}
 use Rattle.numeral.specs.Numeral.{digits}
-use Rattle.tables.proofs.RowViews.{row-at, rows-length}
-use Rattle.tables.specs.Rows.{rowsOf}
-use Rattle.judge.specs.Answer.{AnswerRow, COMMA, CRLF, line, lines, answerHeader, answerText, answerRow, answerRows, answerWidth}
+use Rattle.cells.proofs.RowViews.{answer-next, answer-length}
+use Rattle.cells.specs.Views.{AnswerRow, answerRows, answerAt}
+use Rattle.judge.specs.Answer.{COMMA, CRLF, line, lines, answerHeader, answerText}
 use Rattle.answer.specs.Lengths.{fixedBytes}
 use Rattle.answer.specs.Longest.{headerBytes}
 use Rattle.answer.specs.Parts.{numberField, letterField, lastField, idsPart, testPart, schedulePart}
-use Rattle.answer.specs.Rows.{rowAt, Lettered}
+use Rattle.answer.specs.Rows.{Lettered}
 
 regroup :
     (a b c d e f g : List ℕ) → ((a ++ b) ++ (c ++ d)) ++ ((e ++ f) ++ g) ≡ a ++ (b ++ (c ++ (d ++ (e ++ (f ++ g)))))
@@ -124,44 +124,38 @@ take-next (suc i) (y ∷ ys) e = ap (λ l. y ∷ l) (take-next i ys e)
 
 module _ (n : ℕ) (cs : List ℕ) where
   -- the row at a place, and the rows behind it
-  pub row-next : (i : ℕ) → i < n → drop i (answerRows n cs) ≡ rowAt cs i ∷ drop (i + 1) (answerRows n cs)
-  unfolding answerRows
-  row-next i h =
-      rw (add-one i, drop-map answerRow i (rowsOf answerWidth n cs), row-at answerWidth n cs i h, drop-map answerRow (suc i) (rowsOf answerWidth n cs))
-
-  rows-count : length (answerRows n cs) ≡ n
-  unfolding answerRows
-  rows-count = length-map (rowsOf answerWidth n cs) answerRow ∙ rows-length answerWidth n cs
+  pub row-next : (i : ℕ) → i < n → drop i (answerRows n cs) ≡ answerAt cs i ∷ drop (i + 1) (answerRows n cs)
+  row-next i h = answer-next n cs i h
 
   pub rows-end : (i : ℕ) → n ≤ i → drop i (answerRows n cs) ≡ []
-  rows-end i h = drop-end i (answerRows n cs) (omega (arith, rows-count))
+  rows-end i h = drop-end i (answerRows n cs) (omega (arith, answer-length n cs))
 
-  pub lettered-at : (i : ℕ) → i < n → All Lettered (answerRows n cs) → Lettered (rowAt cs i)
+  pub lettered-at : (i : ℕ) → i < n → All Lettered (answerRows n cs) → Lettered (answerAt cs i)
   lettered-at i h a = all-head (rw (row-next i h) at (all-drop i a))
 
   -- the text of the rows before a place, and of one more
   abbrev pub linesBefore : ℕ → List ℕ
   linesBefore i = lines (take i (answerRows n cs))
 
-  pub lines-next : (i : ℕ) → i < n → linesBefore (i + 1) ≡ linesBefore i ++ line (rowAt cs i)
+  pub lines-next : (i : ℕ) → i < n → linesBefore (i + 1) ≡ linesBefore i ++ line (answerAt cs i)
   lines-next i h =
       rw (
         add-one i,
         take-next i (answerRows n cs) (row-next i h),
-        lines-append (take i (answerRows n cs)) (rowAt cs i ∷ []),
-        lines-one (rowAt cs i),
+        lines-append (take i (answerRows n cs)) (answerAt cs i ∷ []),
+        lines-one (answerAt cs i),
       )
 
   pub lines-all : (i : ℕ) → n ≤ i → linesBefore i ≡ lines (answerRows n cs)
-  lines-all i h = rw (take-all i (answerRows n cs) (omega (arith, rows-count)))
+  lines-all i h = rw (take-all i (answerRows n cs) (omega (arith, answer-length n cs)))
 
   -- the text of one more row has room where the whole text has
-  pub lines-room : (i : ℕ) → i < n → length (linesBefore i) + length (line (rowAt cs i)) ≤ length (lines (answerRows n cs))
+  pub lines-room : (i : ℕ) → i < n → length (linesBefore i) + length (line (answerAt cs i)) ≤ length (lines (answerRows n cs))
   lines-room i h =
       omega (
         arith,
         ap length (lines-next i h),
-        length-append (linesBefore i) (line (rowAt cs i)),
+        length-append (linesBefore i) (line (answerAt cs i)),
         ap (λ l. length (lines l)) (take-append-drop (i + 1) (answerRows n cs)),
         ap length (lines-append (take (i + 1) (answerRows n cs)) (drop (i + 1) (answerRows n cs))),
         length-append (linesBefore (i + 1)) (lines (drop (i + 1) (answerRows n cs))),
@@ -170,9 +164,9 @@ module _ (n : ℕ) (cs : List ℕ) where
   -- the length of the rows from a place on, where there is one more
   pub rest-length :
       (i : ℕ) → i < n →
-      length (lines (drop i (answerRows n cs))) ≡ length (line (rowAt cs i)) + length (lines (drop (i + 1) (answerRows n cs)))
+      length (lines (drop i (answerRows n cs))) ≡ length (line (answerAt cs i)) + length (lines (drop (i + 1) (answerRows n cs)))
   unfolding lines
-  rest-length i h = rw (row-next i h) (length-append (line (rowAt cs i)) (lines (drop (i + 1) (answerRows n cs))))
+  rest-length i h = rw (row-next i h) (length-append (line (answerAt cs i)) (lines (drop (i + 1) (answerRows n cs))))
 
   pub rest-none : (i : ℕ) → n ≤ i → length (lines (drop i (answerRows n cs))) ≡ 0
   unfolding lines

@@ -8,7 +8,8 @@ use Rattle.base.specs.Search.{All, all-none, all-more}
 use Rattle.numeral.proofs.Laws.{length-at-most}
 use Rattle.numeral.specs.Numeral.{numeral·all}
 use Rattle.supply.specs.Supply.{mostUnits}
-use Rattle.judge.specs.Answer.{AnswerRow, line, lines, answerText, answer·all}
+use Rattle.cells.specs.Views.{AnswerRow}
+use Rattle.judge.specs.Answer.{line, lines, answerText, answer·all}
 use Rattle.answer.specs.Longest.{
   Ranged,
   unitDigits,

@@ -5,10 +5,10 @@ use mathlib.Core.List.{List, _++_}
 use native.Mathlib.Omega.{arith}
 use lib.ListN.{length, take, drop, length-append}
 use Rattle.base.specs.Writing.{Wrote}
-use Rattle.judge.specs.Answer.{lines, line, answerText, answerRows}
+use Rattle.cells.specs.Views.{answerRows, answerAt}
+use Rattle.judge.specs.Answer.{lines, line, answerText}
 use Rattle.answer.specs.Lengths.{LineLength, mostLine}
 use Rattle.answer.specs.Longest.{headerBytes}
-use Rattle.answer.specs.Rows.{rowAt}
 use Rattle.answer.proofs.LineLaws.{
   text-length,
   linesBefore,
@@ -29,7 +29,7 @@ module _ (n : ℕ) (cs : List ℕ) where
   pub count-none : Counting 0 headerBytes
   count-none = record { counted = sym (text-length (answerRows n cs)); most = omega arith }
 
-  pub count-next : {i at k : ℕ} → i < n → LineLength (rowAt cs i) k → Counting i at → Counting (i + 1) (at + k)
+  pub count-next : {i at k : ℕ} → i < n → LineLength (answerAt cs i) k → Counting i at → Counting (i + 1) (at + k)
   count-next {i} h l c =
       record { counted = omega (arith, rest-length n cs i h, l .counted, c .counted); most = omega (arith, l .most, c .most) }
 
@@ -47,12 +47,12 @@ module _ (n : ℕ) (cs : List ℕ) where
 
   module _ (old : List ℕ) (fits : length (lines (answerRows n cs)) ≤ length old) where
     pub writing-room :
-        {i at : ℕ} {new : List ℕ} → i < n → Writing old i at new → at + length (line (rowAt cs i)) ≤ length new
+        {i at : ℕ} {new : List ℕ} → i < n → Writing old i at new → at + length (line (answerAt cs i)) ≤ length new
     writing-room {i} h w = omega (arith, lines-room n cs i h, w .wrote .counted, w .same-length)
 
     pub writing-next :
         {i at k : ℕ} {new part : List ℕ} → i < n → Writing old i at new →
-        Wrote (line (rowAt cs i)) k (take (length new - at) (drop at new)) part →
+        Wrote (line (answerAt cs i)) k (take (length new - at) (drop at new)) part →
         Writing old (i + 1) (at + k) (take at new ++ (part ++ drop (length new - at) (drop at new)))
     writing-next {i} h w more =
         let next = wrote-next (w .wrote) more in
@@ -60,7 +60,7 @@ module _ (n : ℕ) (cs : List ℕ) where
           wrote = rw (lines-next n cs i h) next;
           same-length =
               wrote-length next
-              (omega (arith, lines-room n cs i h, length-append (linesBefore n cs i) (line (rowAt cs i))));
+              (omega (arith, lines-room n cs i h, length-append (linesBefore n cs i) (line (answerAt cs i))));
         }
 
   pub writing-over :

@@ -11,7 +11,7 @@ use borrow.Author.Tests.{ltb-true, ltb-false, lt-ltb, eq-eqb, eqb-true, eqb-fals
 use Rattle.base.specs.Search.{any, those, firstAtOdds, All, all-more}
 use Rattle.base.proofs.Elements.{any-mem, none-mem}
 use Rattle.base.proofs.Tests.{false-true, and-fst, and-snd}
-use Rattle.tables.specs.Hours.{lastHour, runEnd, inRun}
+use Rattle.hours.specs.Hours.{lastHour, runEnd, inRun}
 use Rattle.tables.specs.Ranges.{PermittedSchedule}
 use Rattle.tables.specs.Rows.{ScheduleRow}
 use Rattle.schedules.specs.Schedules.{scheduleOdds, schedulesAtOdds, own}

@@ -12,10 +12,11 @@ use Rattle.base.specs.Search.{All}
 use Rattle.base.proofs.Elements.{all-mem, all-those, those-mem}
 use Rattle.base.proofs.Tests.{eq-or-ne, lt-or-ge}
 use Rattle.tables.specs.Ranges.{PermittedSupply, PermittedSchedule}
-use Rattle.tables.specs.Rows.{ConstraintRow, SupplyRow, ScheduleRow}
+use Rattle.tables.specs.Rows.{SupplyRow, ScheduleRow}
+use Rattle.tables.specs.declared.constraint.ConstraintRow.{ConstraintRow}
 use Rattle.tables.specs.Table.{table}
 use Rattle.tables.specs.declared.files.File.the-variants.{Supply}
-use Rattle.filing.specs.Filing.{constraintOf, supplyOf, schedulesOf}
+use Rattle.filing.specs.Filing.{Files, constraintOf, supplyOf, schedulesOf}
 use Rattle.schedules.specs.Schedules.{own, schedulesAtOdds}
 use Rattle.supply.specs.Supply.{units}
 use Rattle.market.specs.Clearing.{eligibleSupply}
@@ -25,7 +26,8 @@ use Rattle.choice.specs.Choosing.{shown}
 use Rattle.choice.specs.Exposure.{U}
 use Rattle.choice.specs.Schedules.{atHour, schedules, running as runs}
 use Rattle.choice.specs.declared.choosing.Choice.{Choice}
-use Rattle.judge.specs.Answer.{AnswerRow, verdictLetter}
+use Rattle.cells.specs.Views.{AnswerRow}
+use Rattle.judge.specs.Answer.{verdictLetter}
 use Rattle.judge.specs.Day.{RunningUnit, DayView, kindRunning}
 use Rattle.judge.specs.Decision.{unitRow, need, cleared, decidedRow}
 use Rattle.judge.specs.Right.{RightTest, RightSchedule, RightRow}
@@ -86,31 +88,31 @@ module _
           cost-small (c .hour) (r .unit) (t .right .row) scheduled a agree row-permitted (runs (kindRunning (r .unit) running)),
         )
 
-module _ (d : DayView) (c s h : List ℕ) (e : decisionRefusal d c s h ≡ none) where
+module _ (d : DayView) (f : Files) (e : decisionRefusal d f ≡ none) where
   right-ranged :
-      (r : AnswerRow) → Among (r .unit) (units (supplyOf s)) →
-      RightRow (constraintOf c) (supplyOf s) (schedulesOf h) (d .running) r →
+      (r : AnswerRow) → Among (r .unit) (units (supplyOf (f .supply))) →
+      RightRow (constraintOf (f .constraint)) (supplyOf (f .supply)) (schedulesOf (f .schedules)) (d .running) r →
       Ranged r
   right-ranged r m t =
-      let k = files-kept d c s h e in
-      let w = unitRow (supplyOf s) (r .unit) in
-      let i = unit-row (constraintOf c) (supplyOf s) (r .unit) m in
+      let k = files-kept d f e in
+      let w = unitRow (supplyOf (f .supply)) (r .unit) in
+      let i = unit-row (constraintOf (f .constraint)) (supplyOf (f .supply)) (r .unit) m in
       let p = all-mem (k .supply-permitted) (i .a-row) in
       let positive = k .constraint-permitted .some-cutoff in
       record {
         unit = omega (arith, i .its-unit, p .unit);
         supplier = omega (arith, t .supplier w i, p .supplier);
         left =
-            left-small (constraintOf c) (supplyOf s) positive (some-need (sound d c s h e)) (k .supply-few) (k .supply-permitted)
+            left-small (constraintOf (f .constraint)) (supplyOf (f .supply)) positive (some-need (sound d f e)) (k .supply-few) (k .supply-permitted)
             (t .tested w i);
         schedule = schedule-small (k .schedules-permitted) (k .schedules-agree) (t .schedule);
         cost = shown-cost-small (k .schedules-permitted) (k .schedules-agree) (t .schedule);
       }
 
-  pub study-ranged : All Ranged (studyRows d c s h)
+  pub study-ranged : All Ranged (studyRows d f)
   unfolding decidedRow
-  study-ranged = study-all d c s h (λ u m. right-ranged (studyRow d c s h u) m (row-right d c s h e u m))
+  study-ranged = study-all d f (λ u m. right-ranged (studyRow d f u) m (row-right d f e u m))
 
-  pub study-longest : length (answerFile d c s h) ≤ longest
+  pub study-longest : length (answerFile d f) ≤ longest
   unfolding answerFile
-  study-longest = answer-most study-ranged (omega (arith, study-count d c s h, files-kept d c s h e .units-few))
+  study-longest = answer-most study-ranged (omega (arith, study-count d f, files-kept d f e .units-few))

@@ -4,9 +4,9 @@ use mathlib.Core.Path.{_≡_, refl}
 use mathlib.Core.List.{List, [], _∷_, map, List·Memᴰ as Among, List·Memᴰ·head as first, List·Memᴰ·tail as later}
 use lib.ListN.{length, length-map}
 use Rattle.base.specs.Search.{All, all-none, all-more}
-use Rattle.filing.specs.Filing.{constraintOf, supplyOf, schedulesOf}
+use Rattle.filing.specs.Filing.{Files, constraintOf, supplyOf, schedulesOf}
 use Rattle.supply.specs.Supply.{units}
-use Rattle.judge.specs.Answer.{AnswerRow}
+use Rattle.cells.specs.Views.{AnswerRow}
 use Rattle.judge.specs.Day.{DayView}
 use Rattle.judge.specs.Decision.{decidedRow, decided}
 use Rattle.judge.specs.Study.{studyRows}
@@ -16,15 +16,15 @@ pub all-map :
 all-map f [] h = all-none
 all-map f (x ∷ xs) h = all-more (h x (first refl)) (all-map f xs (λ y m. h y (later m)))
 
-module _ (d : DayView) (c s h : List ℕ) where
+module _ (d : DayView) (f : Files) where
   -- the row of a unit
   abbrev pub studyRow : ℕ → AnswerRow
-  studyRow = decidedRow (constraintOf c) (supplyOf s) (schedulesOf h) (d .running)
+  studyRow = decidedRow (constraintOf (f .constraint)) (supplyOf (f .supply)) (schedulesOf (f .schedules)) (d .running)
 
-  pub study-all : {P : AnswerRow → Type 0} → ((u : ℕ) → Among u (units (supplyOf s)) → P (studyRow u)) → All P (studyRows d c s h)
+  pub study-all : {P : AnswerRow → Type 0} → ((u : ℕ) → Among u (units (supplyOf (f .supply))) → P (studyRow u)) → All P (studyRows d f)
   unfolding studyRows decided
-  study-all each = all-map studyRow (units (supplyOf s)) each
+  study-all each = all-map studyRow (units (supplyOf (f .supply))) each
 
-  pub study-count : length (studyRows d c s h) ≡ length (units (supplyOf s))
+  pub study-count : length (studyRows d f) ≡ length (units (supplyOf (f .supply)))
   unfolding studyRows decided
-  study-count = length-map (units (supplyOf s)) studyRow
+  study-count = length-map (units (supplyOf (f .supply))) studyRow

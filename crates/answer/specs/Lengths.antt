@@ -3,7 +3,8 @@ use Prim.Native.Nat.{ℕ, _+_, _*_, _≤_}
 use mathlib.Core.Path.{_≡_}
 use lib.ListN.{length}
 use Rattle.numeral.specs.Numeral.{digits}
-use Rattle.judge.specs.Answer.{AnswerRow, line}
+use Rattle.cells.specs.Views.{AnswerRow}
+use Rattle.judge.specs.Answer.{line}
 
 -- the digits of a number of 64 bits, at most
 abbrev pub mostDigits : ℕ

@@ -1,7 +1,7 @@
 -- Document 01: "Its buffer holds the longest answer." The header, and a row for each of 64 units whose fields are as wide as
 -- their ranges permit. Assumes nothing.
 use Prim.Native.Nat.{ℕ, _+_, _*_, _^_, _<_}
-use Rattle.judge.specs.Answer.{AnswerRow}
+use Rattle.cells.specs.Views.{AnswerRow}
 use Rattle.supply.specs.Supply.{mostUnits}
 use Rattle.answer.specs.Lengths.{fixedBytes}
 

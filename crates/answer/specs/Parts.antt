@@ -2,7 +2,8 @@
 use Prim.Native.Nat.{ℕ}
 use mathlib.Core.List.{List, [], _∷_, _++_}
 use Rattle.numeral.specs.Numeral.{digits}
-use Rattle.judge.specs.Answer.{AnswerRow, COMMA, CRLF}
+use Rattle.cells.specs.Views.{AnswerRow}
+use Rattle.judge.specs.Answer.{COMMA, CRLF}
 
 -- a number and the comma behind it
 unfoldable pub numberField : ℕ → List ℕ

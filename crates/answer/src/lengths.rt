@@ -2,10 +2,10 @@
 ghost use mathlib.Core.Path.{_≡_};
 ghost use Prim.Native.Nat.{_+_, _*_, _≤_, _<_};
 ghost use lib.ListN.{getD, length as List·length};
-ghost use Rattle.judge.specs.Answer.{answerRows, answerText};
-ghost use Rattle.answer.specs.Rows.{rowAt, rowCells};
+ghost use Rattle.cells.specs.Views.{answerRows, answerAt, answerWidth};
+ghost use Rattle.judge.specs.Answer.{answerText};
 ghost use Rattle.answer.specs.Lengths.{NumeralLength, LineLength};
-use crate::cells;
+use cells::answer;
 
 // The header record.
 const HEADER: usize = 47;
@@ -31,13 +31,13 @@ pub fn length(cells: &[u64], n: usize) -> usize
 // The length of the record of the row at `i`.
 fn line_length(cells: &[u64], i: usize) -> usize
     requires { ⌜ i * 7 + 7 ≤ List·length (now cells) ⌝ }
-    ensures { λ r. ⌜ LineLength (rowAt (now (cells .entry)) i) r ⌝ }
+    ensures { λ r. ⌜ LineLength (answerAt (now (cells .entry)) i) r ⌝ }
 {
-    let unit = numeral_length(cells, i, cells::UNIT);
-    let supplier = numeral_length(cells, i, cells::SUPPLIER);
-    let left = numeral_length(cells, i, cells::LEFT);
-    let schedule = numeral_length(cells, i, cells::SCHEDULE);
-    let cost = numeral_length(cells, i, cells::COST);
+    let unit = numeral_length(cells, i, answer::UNIT);
+    let supplier = numeral_length(cells, i, answer::SUPPLIER);
+    let left = numeral_length(cells, i, answer::LEFT);
+    let schedule = numeral_length(cells, i, answer::SCHEDULE);
+    let cost = numeral_length(cells, i, answer::COST);
     unit + supplier + left + schedule + cost + FIXED
 }
 
@@ -45,7 +45,7 @@ fn line_length(cells: &[u64], i: usize) -> usize
 fn numeral_length(cells: &[u64], i: usize, column: usize) -> usize
     requires { ⌜ i * 7 + 7 ≤ List·length (now cells) ⌝ }
     requires { ⌜ column < 7 ⌝ }
-    ensures { λ r. ⌜ NumeralLength (getD (rowCells (now (cells .entry)) i) column 0) r ⌝ }
+    ensures { λ r. ⌜ NumeralLength (getD (now (cells .entry)) (i * answerWidth + column) 0) r ⌝ }
 {
-    numeral::digit_count(cells::cell(cells, i, column))
+    numeral::digit_count(answer::cell(cells, i, column))
 }

@@ -1,6 +1,5 @@
 // The answer file, from rows of cells to text in a lent buffer: how long it is, and the writing of
 // it. Rows are a lent run of cells, seven a row, with verdict and kind as their letters.
-mod cells;
 mod lengths;
 mod writing;
 
@@ -9,3 +8,6 @@ pub use writing::write;
 
 // The longest answer: the header, and 64 rows of which every field is as wide as its range permits.
 pub const LONGEST: usize = 2799;
+
+// The cells of the rows of 64 units.
+pub const CELLS: usize = 448;

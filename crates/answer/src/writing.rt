@@ -4,10 +4,11 @@ ghost use Prim.Native.Nat.{_+_, _*_, _≤_, _<_};
 ghost use lib.ListN.{length, getD};
 ghost use Rattle.base.specs.Search.{All};
 ghost use Rattle.base.specs.Writing.{Wrote};
-ghost use Rattle.judge.specs.Answer.{answerHeader, answerRows, answerText, line, lines};
-ghost use Rattle.answer.specs.Rows.{rowAt, rowCells, Lettered};
+ghost use Rattle.cells.specs.Views.{answerRows, answerAt, answerWidth};
+ghost use Rattle.judge.specs.Answer.{answerHeader, answerText, line, lines};
+ghost use Rattle.answer.specs.Rows.{Lettered};
 ghost use Rattle.answer.specs.Parts.{numberField, letterField, lastField, idsPart, testPart, schedulePart};
-use crate::cells;
+use cells::answer;
 
 const COMMA: u8 = b',';
 
@@ -52,9 +53,9 @@ fn write_rows(cells: &[u64], n: usize, out: &mut [u8]) -> usize
 // The record of the row at `i`.
 fn write_row(cells: &[u64], i: usize, out: &mut [u8]) -> usize
     requires { ⌜ i * 7 + 7 ≤ length (now cells) ⌝ }
-    requires { ⌜ Lettered (rowAt (now cells) i) ⌝ }
-    requires { ⌜ length (line (rowAt (now cells) i)) ≤ length (now out) ⌝ }
-    ensures { λ r. ⌜ Wrote (line (rowAt (now (cells .entry)) i)) r (now (out .entry)) (now (out .exit)) ⌝ }
+    requires { ⌜ Lettered (answerAt (now cells) i) ⌝ }
+    requires { ⌜ length (line (answerAt (now cells) i)) ≤ length (now out) ⌝ }
+    ensures { λ r. ⌜ Wrote (line (answerAt (now (cells .entry)) i)) r (now (out .entry)) (now (out .exit)) ⌝ }
 {
     let mut at = write_ids(cells, i, out);
     at += write_test(cells, i, &mut out[at..]);
@@ -65,36 +66,36 @@ fn write_row(cells: &[u64], i: usize, out: &mut [u8]) -> usize
 // Unit and supplier.
 fn write_ids(cells: &[u64], i: usize, out: &mut [u8]) -> usize
     requires { ⌜ i * 7 + 7 ≤ length (now cells) ⌝ }
-    requires { ⌜ length (idsPart (rowAt (now cells) i)) ≤ length (now out) ⌝ }
-    ensures { λ r. ⌜ Wrote (idsPart (rowAt (now (cells .entry)) i)) r (now (out .entry)) (now (out .exit)) ⌝ }
+    requires { ⌜ length (idsPart (answerAt (now cells) i)) ≤ length (now out) ⌝ }
+    ensures { λ r. ⌜ Wrote (idsPart (answerAt (now (cells .entry)) i)) r (now (out .entry)) (now (out .exit)) ⌝ }
 {
-    let mut at = write_number(cells, i, cells::UNIT, out);
-    at += write_number(cells, i, cells::SUPPLIER, &mut out[at..]);
+    let mut at = write_number(cells, i, answer::UNIT, out);
+    at += write_number(cells, i, answer::SUPPLIER, &mut out[at..]);
     at
 }
 
 // Verdict and left.
 fn write_test(cells: &[u64], i: usize, out: &mut [u8]) -> usize
     requires { ⌜ i * 7 + 7 ≤ length (now cells) ⌝ }
-    requires { ⌜ Lettered (rowAt (now cells) i) ⌝ }
-    requires { ⌜ length (testPart (rowAt (now cells) i)) ≤ length (now out) ⌝ }
-    ensures { λ r. ⌜ Wrote (testPart (rowAt (now (cells .entry)) i)) r (now (out .entry)) (now (out .exit)) ⌝ }
+    requires { ⌜ Lettered (answerAt (now cells) i) ⌝ }
+    requires { ⌜ length (testPart (answerAt (now cells) i)) ≤ length (now out) ⌝ }
+    ensures { λ r. ⌜ Wrote (testPart (answerAt (now (cells .entry)) i)) r (now (out .entry)) (now (out .exit)) ⌝ }
 {
-    let mut at = write_letter(cells, i, cells::VERDICT, out);
-    at += write_number(cells, i, cells::LEFT, &mut out[at..]);
+    let mut at = write_letter(cells, i, answer::VERDICT, out);
+    at += write_number(cells, i, answer::LEFT, &mut out[at..]);
     at
 }
 
 // Schedule, kind and cost, and the record's end.
 fn write_schedule(cells: &[u64], i: usize, out: &mut [u8]) -> usize
     requires { ⌜ i * 7 + 7 ≤ length (now cells) ⌝ }
-    requires { ⌜ Lettered (rowAt (now cells) i) ⌝ }
-    requires { ⌜ length (schedulePart (rowAt (now cells) i)) ≤ length (now out) ⌝ }
-    ensures { λ r. ⌜ Wrote (schedulePart (rowAt (now (cells .entry)) i)) r (now (out .entry)) (now (out .exit)) ⌝ }
+    requires { ⌜ Lettered (answerAt (now cells) i) ⌝ }
+    requires { ⌜ length (schedulePart (answerAt (now cells) i)) ≤ length (now out) ⌝ }
+    ensures { λ r. ⌜ Wrote (schedulePart (answerAt (now (cells .entry)) i)) r (now (out .entry)) (now (out .exit)) ⌝ }
 {
-    let mut at = write_number(cells, i, cells::SCHEDULE, out);
-    at += write_letter(cells, i, cells::KIND, &mut out[at..]);
-    at += write_last(cells, i, cells::COST, &mut out[at..]);
+    let mut at = write_number(cells, i, answer::SCHEDULE, out);
+    at += write_letter(cells, i, answer::KIND, &mut out[at..]);
+    at += write_last(cells, i, answer::COST, &mut out[at..]);
     at
 }
 
@@ -102,10 +103,10 @@ fn write_schedule(cells: &[u64], i: usize, out: &mut [u8]) -> usize
 fn write_number(cells: &[u64], i: usize, column: usize, out: &mut [u8]) -> usize
     requires { ⌜ i * 7 + 7 ≤ length (now cells) ⌝ }
     requires { ⌜ column < 7 ⌝ }
-    requires { ⌜ length (numberField (getD (rowCells (now cells) i) column 0)) ≤ length (now out) ⌝ }
-    ensures { λ r. ⌜ Wrote (numberField (getD (rowCells (now (cells .entry)) i) column 0)) r (now (out .entry)) (now (out .exit)) ⌝ }
+    requires { ⌜ length (numberField (getD (now cells) (i * answerWidth + column) 0)) ≤ length (now out) ⌝ }
+    ensures { λ r. ⌜ Wrote (numberField (getD (now (cells .entry)) (i * answerWidth + column) 0)) r (now (out .entry)) (now (out .exit)) ⌝ }
 {
-    let at = numeral::write(cells::cell(cells, i, column), out);
+    let at = numeral::write(answer::cell(cells, i, column), out);
     out[at] = COMMA;
     at + 1
 }
@@ -114,11 +115,11 @@ fn write_number(cells: &[u64], i: usize, column: usize, out: &mut [u8]) -> usize
 fn write_letter(cells: &[u64], i: usize, column: usize, out: &mut [u8]) -> usize
     requires { ⌜ i * 7 + 7 ≤ length (now cells) ⌝ }
     requires { ⌜ column < 7 ⌝ }
-    requires { ⌜ getD (rowCells (now cells) i) column 0 < 256 ⌝ }
-    requires { ⌜ length (letterField (getD (rowCells (now cells) i) column 0)) ≤ length (now out) ⌝ }
-    ensures { λ r. ⌜ Wrote (letterField (getD (rowCells (now (cells .entry)) i) column 0)) r (now (out .entry)) (now (out .exit)) ⌝ }
+    requires { ⌜ getD (now cells) (i * answerWidth + column) 0 < 256 ⌝ }
+    requires { ⌜ length (letterField (getD (now cells) (i * answerWidth + column) 0)) ≤ length (now out) ⌝ }
+    ensures { λ r. ⌜ Wrote (letterField (getD (now (cells .entry)) (i * answerWidth + column) 0)) r (now (out .entry)) (now (out .exit)) ⌝ }
 {
-    out[0] = cells::cell(cells, i, column) as u8;
+    out[0] = answer::cell(cells, i, column) as u8;
     out[1] = COMMA;
     2
 }
@@ -127,10 +128,10 @@ fn write_letter(cells: &[u64], i: usize, column: usize, out: &mut [u8]) -> usize
 fn write_last(cells: &[u64], i: usize, column: usize, out: &mut [u8]) -> usize
     requires { ⌜ i * 7 + 7 ≤ length (now cells) ⌝ }
     requires { ⌜ column < 7 ⌝ }
-    requires { ⌜ length (lastField (getD (rowCells (now cells) i) column 0)) ≤ length (now out) ⌝ }
-    ensures { λ r. ⌜ Wrote (lastField (getD (rowCells (now (cells .entry)) i) column 0)) r (now (out .entry)) (now (out .exit)) ⌝ }
+    requires { ⌜ length (lastField (getD (now cells) (i * answerWidth + column) 0)) ≤ length (now out) ⌝ }
+    ensures { λ r. ⌜ Wrote (lastField (getD (now (cells .entry)) (i * answerWidth + column) 0)) r (now (out .entry)) (now (out .exit)) ⌝ }
 {
-    let at = numeral::write(cells::cell(cells, i, column), out);
+    let at = numeral::write(answer::cell(cells, i, column), out);
     out[at] = CR;
     out[at + 1] = LF;
     at + 2

@@ -7,8 +7,8 @@ use native.Mathlib.Nat.{le-refl}
 use native.Mathlib.Omega.{arith}
 use lib.ListN.{drop}
 use Rattle.base.specs.Search.{All, all-none, all-more}
-use Rattle.judge.specs.Answer.{answerRows}
-use Rattle.answer.specs.Rows.{rowAt, Lettered}
+use Rattle.cells.specs.Views.{answerRows, answerAt}
+use Rattle.answer.specs.Rows.{Lettered}
 use Rattle.answer.proofs.LineLaws.{row-next, rows-end}
 
 pub not-false : (t : Bool) → not t ≡ false → t ≡ true
@@ -21,7 +21,7 @@ module _ (n : ℕ) (cs : List ℕ) where
 
   -- one row more, in front
   pub all-from :
-      (i : ℕ) → 0 < i → i ≤ n → Lettered (rowAt cs (i - 1)) → All Lettered (drop i (answerRows n cs)) →
+      (i : ℕ) → 0 < i → i ≤ n → Lettered (answerAt cs (i - 1)) → All Lettered (drop i (answerRows n cs)) →
       All Lettered (drop (i - 1) (answerRows n cs))
   all-from i some h l a =
       let behind : i - 1 + 1 ≡ i = omega arith in

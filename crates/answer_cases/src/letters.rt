@@ -4,14 +4,11 @@ ghost use mathlib.Core.Bool.{true};
 ghost use Prim.Native.Nat.{_+_, _*_, _≤_};
 ghost use lib.ListN.{length};
 ghost use Rattle.base.specs.Search.{All};
-ghost use Rattle.judge.specs.Answer.{answerRows};
-ghost use Rattle.answer.specs.Rows.{rowAt, Lettered};
-
-const WIDTH: usize = 7;
-
-const VERDICT: usize = 2;
-
-const KIND: usize = 5;
+ghost use Rattle.cells.specs.Views.{answerAt, answerRows};
+ghost use Rattle.answer.specs.Rows.{Lettered};
+use cells::answer::KIND;
+use cells::answer::VERDICT;
+use cells::answer::WIDTH;
 
 const LARGEST: u64 = 255;
 
@@ -31,7 +28,7 @@ pub fn lettered(cells: &[u64], n: usize) -> bool
 
 fn row_lettered(cells: &[u64], i: usize) -> bool
     requires { ⌜ i * 7 + 7 ≤ length (now cells) ⌝ }
-    ensures { λ r. ⌜ (r ≡ true → Lettered (rowAt (now (cells .entry)) i)) ⌝ }
+    ensures { λ r. ⌜ (r ≡ true → Lettered (answerAt (now (cells .entry)) i)) ⌝ }
 {
     if LARGEST < cells[i * WIDTH + VERDICT] {
         return false;

@@ -3,7 +3,7 @@
 ghost use Prim.Native.Nat.{_+_, _*_, _≤_};
 ghost use lib.ListN.{length};
 ghost use Rattle.base.specs.Search.{All};
-ghost use Rattle.judge.specs.Answer.{answerRows};
+ghost use Rattle.cells.specs.Views.{answerRows};
 ghost use Rattle.answer.specs.Longest.{longest as Longest·longest};
 ghost use Rattle.answer.specs.Rows.{Lettered};
 use libc::STDOUT_FILENO;

@@ -1,20 +1,16 @@
 // The rows of the cases, seven cells a row: unit, supplier, verdict, left, schedule, kind, cost.
 
-// The letters of verdicts and kinds.
+use answer::CELLS;
+use cells::answer::WIDTH;
+use tables::C;
+use tables::M;
+
+// The letters of the verdicts.
 const U: u64 = b'U' as u64;
 
 const P: u64 = b'P' as u64;
 
 const F: u64 = b'F' as u64;
-
-const M: u64 = b'M' as u64;
-
-const C: u64 = b'C' as u64;
-
-const WIDTH: usize = 7;
-
-// The cells of 64 rows.
-const CELLS: usize = 448;
 
 // The rows of document 01's example.
 pub const STARRED: [u64; 28] = [

@@ -1,5 +1,6 @@
 pub mod Elements
 pub mod Finds
+pub mod FirstLaws
 pub mod Lists
 pub mod Members
 pub mod RisingLaws

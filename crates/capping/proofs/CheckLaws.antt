@@ -1,32 +1,38 @@
 -- The number of the first refusal, from what filing answered. Assumes nothing.
 use Prim.Native.Nat.{ℕ}
-use mathlib.Core.Path.{_≡_, refl, sym, _∙_}
+use mathlib.Core.Path.{_≡_, sym, _∙_}
 use mathlib.Core.List.{List}
-use mathlib.Core.Option.{Option, none, some, Option·map, Option·getD}
-use native.Mathlib.Omega.{arith}
+use mathlib.Core.Option.{Option}
+use lib.ListN.{take}
+use Rattle.base.specs.Search.{firstOf}
+use Rattle.tables.specs.declared.files.Reading.{Reading}
+use Rattle.tables.specs.declared.files.Reading.the-variants.{Rows, Refused as NotRead}
 use Rattle.tables.specs.declared.files.Refusal.{Refusal}
-use Rattle.filing.specs.Filed.{filed, filedUnless}
-use Rattle.filing.specs.Filing.{filingRefusal, checkNumber}
-use Rattle.filing.specs.declared.files.Filed.{Filed}
-use Rattle.filing.specs.declared.files.Filed.the-variants.{Rows, Refused}
-use Rattle.filing.specs.declared.files.Sizes.{Sizes}
+use Rattle.filing.specs.Alone.{SchedulesFiled}
+use Rattle.filing.specs.Filed.{MarketFiled}
+use Rattle.filing.specs.Filing.{files, schedulesRefusals, numberOf, checkNumber}
+use Rattle.filing.specs.declared.market.Market.{Market}
+use Rattle.filing.specs.declared.market.MarketFiling.{MarketFiling}
+use Rattle.filing.specs.declared.market.MarketFiling.the-variants.{Filed, Refused}
+use Rattle.filing.proofs.FiledLaws.{market-refused, schedules-first}
+use Rattle.filing.proofs.RuleLaws.{rows-answered, refused-answered}
 
-module _ (c s h : List ℕ) {r : Filed} (answers : r ≡ filed c s h) where
-  abbrev numberOf : Option Refusal → ℕ
-  numberOf o = Option·getD (Option·map (λ (x : Refusal). x .number) o) 0
+-- schedules
+module _ (refusals : List (Option Refusal)) (h cells links : List ℕ) {r : Reading} (filed : SchedulesFiled refusals h cells links r) where
+  pub schedules-number : {x : Refusal} → r ≡ NotRead x → x .number ≡ numberOf (firstOf refusals)
+  schedules-number e = rw (refused-answered (firstOf refusals) _ (sym (filed .answers) ∙ e))
 
-  pub check-rows : {z : Sizes} → r ≡ Rows z → 0 ≡ checkNumber c s h
-  unfolding checkNumber filed
-  check-rows {z} e = go (filingRefusal c s h) (sym answers ∙ e)
-    where
-      go : (o : Option Refusal) → filedUnless o s h ≡ Rows z → 0 ≡ numberOf o
-      go none f = refl
-      go (some x) f = let y : _≡_ {A = ℕ} 0 1 = cc in absurd (omega arith)
+  pub schedules-zero : {n : ℕ} → r ≡ Rows n → 0 ≡ numberOf (firstOf refusals)
+  schedules-zero e = rw (rows-answered (firstOf refusals) _ (sym (filed .answers) ∙ e) .0)
 
-  pub check-refused : {x : Refusal} → r ≡ Refused x → x .number ≡ checkNumber c s h
-  unfolding checkNumber filed
-  check-refused {x} e = go (filingRefusal c s h) (sym answers ∙ e)
-    where
-      go : (o : Option Refusal) → filedUnless o s h ≡ Refused x → x .number ≡ numberOf o
-      go none f = let y : _≡_ {A = ℕ} 0 1 = cc in absurd (omega arith)
-      go (some y) f = cc
+-- all three
+module _ (c s supply us : List ℕ) {q : MarketFiling} (market : MarketFiled c s supply us q) where
+  pub market-number : (h : List ℕ) {x : Refusal} → q ≡ Refused x → x .number ≡ checkNumber (files c s h)
+  unfolding checkNumber
+  market-number h e = rw (market-refused c s supply us market h e)
+
+  pub files-number :
+      (m : Market) → q ≡ Filed m → (h : List ℕ) {a : ℕ} →
+      a ≡ numberOf (firstOf (schedulesRefusals (m .constraint .hour) (take (m .units) us) h)) → a ≡ checkNumber (files c s h)
+  unfolding checkNumber
+  files-number m e h told = told ∙ rw (schedules-first c s supply us market m e h)

@@ -11,6 +11,7 @@ use Rattle.pivotal.specs.Test.{number}
 use Rattle.pivotal.specs.declared.Answer.{Answer}
 use Rattle.pivotal.specs.declared.Answer.the-variants.{Tested, Refused as NotTested}
 use Rattle.pivotal.specs.declared.Verdict.{Verdict}
+use Rattle.filing.specs.Filing.{Files}
 use Rattle.judge.specs.Day.{freshDay}
 use Rattle.judge.specs.Right.{Right}
 use Rattle.judge.specs.Study.{answerFile, studied}
@@ -49,25 +50,25 @@ pub none-refused : {a : Study} {n : ℕ} → a ≡ Written n → record { number
 none-refused e = rw e
 
 -- a study of a day that is fresh
-module _ (day : Day) (c s h new : List ℕ) (w : Studied) (fresh : viewOf day ≡ freshDay) where
+module _ (day : Day) (f : Files) (new : List ℕ) (w : Studied) (fresh : viewOf day ≡ freshDay) where
   pub fresh-study :
-      (old : List ℕ) → Studies day c s h old new w → {f : Refusal} {r : ℕ} {report : List ℕ} →
-      f ≡ answerRefusal (w .answer) → r ≡ answerCount (w .answer) → report ≡ cellsOf f → FreshStudy c s h old new report r
+      (old : List ℕ) → Studies day f old new w → {x : Refusal} {r : ℕ} {report : List ℕ} →
+      x ≡ answerRefusal (w .answer) → r ≡ answerCount (w .answer) → report ≡ cellsOf x → FreshStudy f old new report r
   fresh-study old studies refused counted stored =
-      let answers : w .answer ≡ studyAnswer (length (answerFile freshDay c s h)) (studied freshDay c s h old .refusal) = rw fresh at (studies .answers) in
+      let answers : w .answer ≡ studyAnswer (length (answerFile freshDay f)) (studied freshDay f old .refusal) = rw fresh at (studies .answers) in
       record {
-        count = counted ∙ ap answerCount answers ∙ count-told (length (answerFile freshDay c s h)) (studied freshDay c s h old .refusal);
+        count = counted ∙ ap answerCount answers ∙ count-told (length (answerFile freshDay f)) (studied freshDay f old .refusal);
         bytes = rw fresh at (studies .bytes);
         reports =
             stored
             ∙ ap cellsOf (refused ∙ ap answerRefusal answers)
-            ∙ report-told (length (answerFile freshDay c s h)) (studied freshDay c s h old .refusal);
+            ∙ report-told (length (answerFile freshDay f)) (studied freshDay f old .refusal);
       }
 
-  pub fresh-right : AnswersRight day c s h new w → {r : ℕ} → r ≡ answerCount (w .answer) → FreshRight c s h new r
+  pub fresh-right : AnswersRight day f new w → {r : ℕ} → r ≡ answerCount (w .answer) → FreshRight f new r
   fresh-right right {r} counted some-written text = go (w .answer) refl counted
     where
-      go : (a : Study) → w .answer ≡ a → r ≡ answerCount a → (text ≡ take r new) ↔ Right freshDay c s h text
+      go : (a : Study) → w .answer ≡ a → r ≡ answerCount a → (text ≡ take r new) ↔ Right freshDay f text
       go (Written count) e g = rw g (rw fresh at (right count e text))
       go (Refused x) e g = absurd (omega (arith, g, some-written))
 

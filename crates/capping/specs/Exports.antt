@@ -12,6 +12,7 @@ use Rattle.pivotal.specs.declared.Answer.{Answer}
 use Rattle.pivotal.specs.declared.Answer.the-variants.{Tested, Refused as NotTested}
 use Rattle.pivotal.specs.declared.Verdict.{Verdict}
 use Rattle.pivotal.specs.declared.Verdict.the-variants.{P, F}
+use Rattle.filing.specs.Filing.{Files}
 use Rattle.judge.specs.Day.{freshDay}
 use Rattle.judge.specs.Right.{Right}
 use Rattle.judge.specs.Study.{answerFile, studied}
@@ -32,14 +33,14 @@ reported none = 0 ∷ 0 ∷ 0 ∷ []
 reported (some r) = cellsOf r
 
 -- a study of a fresh day: the result, every byte of the buffer and every cell of the report are what the definition gives
-pub record FreshStudy (c s h old new report : List ℕ) (r : ℕ) : Type 0 where
-  pub count : r ≡ countWritten (length (answerFile freshDay c s h)) (studied freshDay c s h old .refusal)
-  pub bytes : new ≡ studied freshDay c s h old .buffer
-  pub reports : report ≡ reported (studied freshDay c s h old .refusal)
+pub record FreshStudy (f : Files) (old new report : List ℕ) (r : ℕ) : Type 0 where
+  pub count : r ≡ countWritten (length (answerFile freshDay f)) (studied freshDay f old .refusal)
+  pub bytes : new ≡ studied freshDay f old .buffer
+  pub reports : report ≡ reported (studied freshDay f old .refusal)
 
 -- demand 3, where bytes were written: those are right, and no others are
-abbrev pub FreshRight : List ℕ → List ℕ → List ℕ → List ℕ → ℕ → Type 0
-FreshRight c s h new r = 0 < r → (text : List ℕ) → (text ≡ take r new) ↔ Right freshDay c s h text
+abbrev pub FreshRight : Files → List ℕ → ℕ → Type 0
+FreshRight f new r = 0 < r → (text : List ℕ) → (text ≡ take r new) ↔ Right freshDay f text
 
 -- count and refusal, by what a study answers
 abbrev pub answerCount : Study → ℕ

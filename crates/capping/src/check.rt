@@ -1,32 +1,42 @@
 // The check of a study's three files for host programs: 0, or the number of the first refusal as far
 // as 9. Assumes nothing of the bytes.
 ghost use mathlib.Core.Path.{_≡_};
-ghost use Rattle.filing.specs.Filing.{checkNumber};
-use engine::CONSTRAINT_CELLS;
-use engine::SCHEDULE_CELLS;
-use engine::SUPPLY_CELLS;
-use engine::UNITS;
-use filing::Filed;
+ghost use lib.ListN.{take};
+ghost use Rattle.base.specs.Search.{firstOf};
+ghost use Rattle.filing.specs.Filed.{MarketFits};
+ghost use Rattle.filing.specs.Filing.{files, schedulesRefusals, numberOf, checkNumber};
+use filing::Market;
+use filing::MarketFiling;
+use filing::SCHEDULE_CELLS;
+use filing::SUPPLY_CELLS;
+use filing::UNITS;
+use filing::file_market;
+use filing::file_schedules;
+use tables::Reading;
 
 #[no_mangle]
 pub extern "C" fn capping_check(constraint: &[u8], supply: &[u8], schedules: &[u8]) -> u64
-    ensures { λ r. ⌜ r ≡ checkNumber (now (constraint .entry)) (now (supply .entry)) (now (schedules .entry)) ⌝ }
+    ensures { λ r. ⌜ r ≡ checkNumber (files (now (constraint .entry)) (now (supply .entry)) (now (schedules .entry))) ⌝ }
 {
-    let mut constraint_cells = [0u64; CONSTRAINT_CELLS];
-    let mut supply_cells = [0u64; SUPPLY_CELLS];
-    let mut schedule_cells = [0u64; SCHEDULE_CELLS];
+    let mut cells = [0u64; SUPPLY_CELLS];
     let mut units = [0u64; UNITS];
-    let filed = filing::file(
-        constraint,
-        supply,
-        schedules,
-        &mut constraint_cells,
-        &mut supply_cells,
-        &mut schedule_cells,
-        &mut units,
-    );
-    match filed {
-        Filed::Rows(_) => 0,
-        Filed::Refused(refusal) => refusal.number,
+    let filing = file_market(constraint, supply, &mut cells, &mut units);
+    match filing {
+        MarketFiling::Refused(refusal) => refusal.number,
+        MarketFiling::Filed(market) => check_schedules(market, schedules, &units),
+    }
+}
+
+// The check of schedules beside a market, whose units are listed.
+fn check_schedules(market: Market, schedules: &[u8], units: &[u64]) -> u64
+    requires { ⌜ MarketFits market (now units) ⌝ }
+    ensures { λ r. ⌜ r ≡ numberOf (firstOf (schedulesRefusals (market .constraint .hour) (take (market .units) (now (units .entry))) (now (schedules .entry)))) ⌝ }
+{
+    let mut cells = [0u64; SCHEDULE_CELLS];
+    let mut links = [0u16; links::LENGTH];
+    let reading = file_schedules(market, schedules, units, &mut cells, &mut links);
+    match reading {
+        Reading::Refused(refusal) => refusal.number,
+        Reading::Rows(_) => 0,
     }
 }

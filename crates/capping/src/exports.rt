@@ -1,6 +1,7 @@
 // The study and the test for host programs. Assumes nothing: of the files, the buffer, the report,
 // the amounts, the place and the need.
 ghost use mathlib.Core.Path.{_≡_};
+ghost use Rattle.filing.specs.Filing.{files};
 ghost use Rattle.pivotal.specs.Test.{tested};
 ghost use Rattle.capping.specs.Exports.{answerCount, answerRefusal, FreshStudy, FreshRight, cellsOf, verdictNumber, testNumber, testLeft};
 use engine::Day;
@@ -26,8 +27,8 @@ pub extern "C" fn capping_study(
     answer: &mut [u8],
     report: &mut [u64; 3],
 ) -> u64
-    ensures { λ r. ⌜ FreshStudy (now (constraint .entry)) (now (supply .entry)) (now (schedules .entry)) (now (answer .entry)) (now (answer .exit)) (now (report .exit)) r ⌝ }
-    ensures { λ r. ⌜ FreshRight (now (constraint .entry)) (now (supply .entry)) (now (schedules .entry)) (now (answer .exit)) r ⌝ }
+    ensures { λ r. ⌜ FreshStudy (files (now (constraint .entry)) (now (supply .entry)) (now (schedules .entry))) (now (answer .entry)) (now (answer .exit)) (now (report .exit)) r ⌝ }
+    ensures { λ r. ⌜ FreshRight (files (now (constraint .entry)) (now (supply .entry)) (now (schedules .entry))) (now (answer .exit)) r ⌝ }
 {
     let day = Day::fresh();
     let studied = day.study(constraint, supply, schedules, answer);

@@ -1,9 +1,9 @@
 -- What is kept of some candidates, one after the other, is the least of them. Assumes nothing.
 use Prim.Native.Nat.{_≤_, _<_}
-use mathlib.Core.Path.{_≡_, refl, _∙_}
-use mathlib.Core.Logic.{_⊎_, inl, inr, ⊎-elim}
+use mathlib.Core.Path.{_≡_, refl}
+use mathlib.Core.Logic.{⊎-elim}
 use mathlib.Core.Bool.{Bool, true, false, cond, _&&_, _||_}
-use mathlib.Core.List.{List, [], _∷_, List·Memᴰ as Among, List·Memᴰ·head as first, List·Memᴰ·tail as later, List·Memᴰ·cases-cons as among-cases}
+use mathlib.Core.List.{List, [], _∷_, List·Memᴰ as Among, List·Memᴰ·head as first, List·Memᴰ·tail as later, List·Memᴰ·cases-cons as among-cases, List·Memᴰ·not-nil as not-nil}
 use native.Mathlib.Omega.{arith}
 use lib.Dec.{ltb, eqb}
 use borrow.Author.Tests.{ltb-true, ltb-false, eqb-true, eqb-false, lt-ltb, le-ltb, eq-eqb, ne-eqb}
@@ -51,43 +51,25 @@ better-cases a b Q is isn't =
     go false false v e f g =
         isn't (record { costs = ltb-false _ _ e; number = λ h. absurd (eqb-false _ _ f h) })
 
--- c is what is kept of an earlier choice k and of candidates
-record Wins (k : Choice) (cs : List Choice) (c : Choice) : Type 0 where
-  from : (c ≡ k) ⊎ Among c cs
-  earlier : NoWorse c k
-  all : (o : Choice) → Among o cs → NoWorse c o
-
-module _ {k d b : Choice} {cs : List Choice} (of-both : (b ≡ k) ⊎ (b ≡ d)) (k-no : NoWorse b k) (d-no : NoWorse b d) where
-  wins-more : {c : Choice} → Wins b cs c → Wins k (d ∷ cs) c
-  wins-more {c} w =
-      record {
-        from = ⊎-elim (λ e. ⊎-elim (λ f. inl (e ∙ f)) (λ f. inr (first (e ∙ f))) of-both) (λ m. inr (later m)) (w .from);
-        earlier = chained (w .earlier) k-no;
-        all = λ o m. ⊎-elim (λ e. rw e (chained (w .earlier) d-no)) (w .all o) (among-cases m);
-      }
-
-wins : (k : Choice) (cs : List Choice) → (c : Choice) × (keptAll (Schedule k) cs ≡ Schedule c) × Wins k cs c
-unfolding keptAll kept
-wins k [] = (k, refl, record { from = inl refl; earlier = self k; all = λ o m. elim m [ ] })
-wins k (d ∷ cs) =
-    better-cases d k (λ (t : Bool). (c : Choice) × (keptAll (cond t (Schedule d) (Schedule k)) cs ≡ Schedule c) × Wins k (d ∷ cs) c)
-    (λ n. (wins d cs .0, wins d cs .1, wins-more (inr refl) n (self d) (wins d cs .2)))
-    (λ n. (wins k cs .0, wins k cs .1, wins-more (inl refl) (self k) n (wins k cs .2)))
-
 -- nothing is kept of no candidates, and else the least
 pub data Least (cs : List Choice) : Chosen → Type 0 where
   no-candidate : cs ≡ [] → Least cs Nothing
   least-one : {c : Choice} → Among c cs → ((o : Choice) → Among o cs → NoWorse c o) → Least cs (Schedule c)
 
-pub least-kept : (cs : List Choice) → Least cs (keptAll Nothing cs)
-unfolding keptAll kept
+-- one candidate more
+least-more : {cs : List Choice} (d : Choice) {b : Chosen} → Least cs b → Least (d ∷ cs) (kept b d)
+unfolding kept
+least-more d (no-candidate e) =
+    least-one (first refl) (λ o m. ⊎-elim (λ f. rw f (self d)) (λ n. absurd (not-nil (rw e at n))) (among-cases m))
+least-more {cs} d (least-one {c = c} m all) =
+    better-cases d c (λ (t : Bool). Least (d ∷ cs) (cond t (Schedule d) (Schedule c)))
+    (λ n. least-one (first refl) (λ o k. ⊎-elim (λ f. rw f (self d)) (λ l. chained n (all o l)) (among-cases k)))
+    (λ n. least-one (later m) (λ o k. ⊎-elim (λ f. rw f n) (all o) (among-cases k)))
+
+pub least-kept : (cs : List Choice) → Least cs (keptAll cs)
+unfolding keptAll
 least-kept [] = no-candidate refl
-least-kept (d ∷ cs) =
-    let (c, e, w) = wins d cs in
-    rw e
-    (least-one
-    (⊎-elim (λ f. first f) (λ m. later m) (w .from))
-    (λ o m. ⊎-elim (λ f. rw f (w .earlier)) (w .all o) (among-cases m)))
+least-kept (d ∷ cs) = least-more d (least-kept cs)
 
 -- the three ways of comparing, as the code goes
 module _ (a b : Choice) where

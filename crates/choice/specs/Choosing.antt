@@ -12,9 +12,8 @@ use Rattle.tables.specs.declared.files.Kind.{Kind}
 use Rattle.choice.specs.declared.choosing.Choice.{Choice}
 use Rattle.choice.specs.declared.choosing.Chosen.{Chosen}
 use Rattle.choice.specs.declared.choosing.Chosen.the-variants.{Schedule, Nothing}
-use Rattle.choice.specs.declared.kinds.Kinds.{Kinds}
 use Rattle.choice.specs.Cost.{cost}
-use Rattle.choice.specs.Schedules.{schedules, running, offers, eligible}
+use Rattle.choice.specs.Schedules.{schedules, running, eligible}
 
 -- a schedule as an answer shows it
 unfoldable pub shown : Option Kind → ℕ → List ScheduleRow → ScheduleRow → Choice
@@ -34,13 +33,10 @@ unfoldable pub kept : Chosen → Choice → Chosen
 kept Nothing c = Schedule c
 kept (Schedule b) c = cond (better c b) (Schedule c) (Schedule b)
 
--- what is kept of an earlier choice and one row more, where that is of a schedule of these kinds
-unfoldable pub weighed : ℕ → Kinds → (ScheduleRow → Choice) → Chosen → ScheduleRow → Chosen
-weighed h kinds show b row = cond (offers h kinds row) (kept b (show row)) b
-
-unfoldable pub keptAll : Chosen → List Choice → Chosen
-keptAll b [] = b
-keptAll b (c ∷ cs) = keptAll (kept b c) cs
+-- what is kept of some, from the last to the first
+unfoldable pub keptAll : List Choice → Chosen
+keptAll [] = Nothing
+keptAll (c ∷ cs) = kept (keptAll cs) c
 
 -- the eligible schedules, as an answer shows them
 unfoldable pub candidates : Option Kind → Bool → ℕ → List ScheduleRow → List Choice
@@ -49,4 +45,4 @@ candidates day exposed h rows =
     map (shown day h rows) (those (eligible day exposed all) all)
 
 unfoldable pub choice : Option Kind → Bool → ℕ → List ScheduleRow → Chosen
-choice day exposed h rows = keptAll Nothing (candidates day exposed h rows)
+choice day exposed h rows = keptAll (candidates day exposed h rows)

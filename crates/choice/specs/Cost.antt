@@ -6,7 +6,7 @@ use mathlib.Core.Bool.{Bool, cond, _&&_}
 use mathlib.Core.List.{List, [], _∷_}
 use lib.Dec.{eqb}
 use Rattle.offers.specs.Offer.{capped}
-use Rattle.tables.specs.Hours.{inRun}
+use Rattle.hours.specs.Hours.{inRun}
 use Rattle.tables.specs.Rows.{ScheduleRow, kindOf}
 use Rattle.tables.specs.declared.files.Kind.{Kind}
 use Rattle.tables.specs.declared.files.Kind.the-variants.{M, C}

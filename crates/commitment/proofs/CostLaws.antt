@@ -1,34 +1,44 @@
--- Laws of costs: how large they are, and the cost of a run row by row. Assumes nothing.
-use Prim.Native.Nat.{ℕ, _+_, _*_, _≤_, _<_}
-use mathlib.Core.Path.{_≡_, refl}
+-- Laws of costs: how large they are, and the cost of a run row by row among all rows. Assumes nothing.
+use Prim.Native.Nat.{ℕ, _+_, _-_, _*_, _≤_, _<_}
+use mathlib.Core.Path.{_≡_, refl, sym, _∙_}
+use mathlib.Core.Logic.{⊎-elim}
 use mathlib.Core.Bool.{Bool, true, false, cond}
-use mathlib.Core.List.{List, [], _∷_, List·Memᴰ as Among, List·Memᴰ·head as first, List·Memᴰ·tail as later}
+use mathlib.Core.List.{List, [], _∷_, foldr, List·Memᴰ as Among, List·Memᴰ·head as first, List·Memᴰ·tail as later}
 use native.Mathlib.Nat.{mul-le-mul}
 use native.Mathlib.Omega.{arith}
-use lib.ListN.{length, drop}
+use lib.Dec.{eqb}
+use lib.ListN.{length, getD}
 use borrow.Author.Tests.{eq-eqb, ne-eqb}
-use Rattle.offers.specs.Offer.{capped, highest}
-use Rattle.tables.specs.Hours.{inRun}
+use Rattle.base.specs.Search.{those}
+use Rattle.base.proofs.Tests.{eq-or-ne}
+use Rattle.offers.specs.Offer.{capped}
+use Rattle.tables.specs.Table.{highestCost}
+use Rattle.hours.specs.Hours.{inRun}
+use Rattle.links.specs.Links.{mostLinked, Linked, scheduleKeys, scheduleKey}
+use Rattle.links.proofs.LinkLaws.{Walk, down, down-more, walk-key, walk-step}
 use Rattle.tables.specs.Ranges.{PermittedSchedule}
 use Rattle.tables.specs.Rows.{ScheduleRow, kindOf, scheduleRows}
 use Rattle.tables.specs.declared.files.Kind.{Kind}
 use Rattle.tables.specs.declared.files.Kind.the-variants.{M, C}
-use Rattle.tables.proofs.RowViews.{schedule-length}
-use Rattle.commitment.specs.Ranges.{UnitRows, rowAt}
+use Rattle.cells.specs.Views.{scheduleAt}
+use Rattle.cells.proofs.RowViews.{schedule-length}
+use Rattle.schedules.specs.Schedules.{own}
+use Rattle.schedules.proofs.SearchLaws.{rows-down}
 use Rattle.choice.specs.Cost.{offerPrice, price, hourCost, inItsRun, share, runCost}
-use Rattle.commitment.proofs.UnitLaws.{rows-next, rows-end}
+use Rattle.commitment.specs.Ranges.{ScheduleCells}
+use Rattle.commitment.specs.Steps.{ownShare}
 
-offer-small : (k : Kind) (listed : ℕ) → listed ≤ highest → offerPrice k listed ≤ highest
+offer-small : (k : Kind) (listed : ℕ) → listed ≤ highestCost → offerPrice k listed ≤ highestCost
 unfolding offerPrice capped
 offer-small M listed h = omega arith
 offer-small C listed h = omega arith
 
 -- the most that an hour costs
 abbrev pub mostHour : ℕ
-mostHour = 100000 * highest + 10 * 100000000
+mostHour = 100000 * highestCost + 10 * 100000000
 
 module _ (row : ScheduleRow) (r : PermittedSchedule row) where
-  pub output-small : row .ecomin * price row ≤ 100000 * highest
+  pub output-small : row .ecomin * price row ≤ 100000 * highestCost
   unfolding price
   output-small = mul-le-mul (r .ecomin) (offer-small (kindOf (row .kind)) (row .price) (r .price))
 
@@ -36,54 +46,110 @@ module _ (row : ScheduleRow) (r : PermittedSchedule row) where
   unfolding hourCost
   hour-small = omega (arith, output-small, r .noload)
 
--- what a row adds to the cost of a run, by the ways of the code
-module _ (h : ℕ) (schedule row : ScheduleRow) where
-  module _ {minrun k : ℕ} (same : row .schedule ≡ schedule .schedule) (lasts : minrun ≡ schedule .minrun) (at : k ≡ row .hour) where
-    pub share-in : inRun h minrun k ≡ true → share h schedule row ≡ hourCost row
-    unfolding share inItsRun
-    share-in e = simp (eq-eqb _ _ same, ← lasts, ← at, e)
+-- what a row adds to the cost of a run of the unit u, by the ways of the code
+module _ (u h : ℕ) (schedule row : ScheduleRow) where
+  pub share-unit : (row .unit ≡ u → ⊥) → 0 ≡ ownShare u h schedule row
+  unfolding ownShare
+  share-unit other = simp (ne-eqb _ _ other)
 
-    pub share-out : inRun h minrun k ≡ false → share h schedule row ≡ 0
-    unfolding share inItsRun
-    share-out e = simp (eq-eqb _ _ same, ← lasts, ← at, e)
+  module _ (own-row : row .unit ≡ u) where
+    pub share-schedule : (row .schedule ≡ schedule .schedule → ⊥) → 0 ≡ ownShare u h schedule row
+    unfolding ownShare share inItsRun
+    share-schedule other = simp (eq-eqb _ _ own-row, ne-eqb _ _ other)
 
-  pub share-other : (row .schedule ≡ schedule .schedule → ⊥) → share h schedule row ≡ 0
-  unfolding share inItsRun
-  share-other other = simp (ne-eqb _ _ other)
+    module _ {minrun k : ℕ} (same : row .schedule ≡ schedule .schedule) (lasts : minrun ≡ schedule .minrun) (at : k ≡ row .hour) where
+      pub share-in : inRun h minrun k ≡ true → ownShare u h schedule row ≡ hourCost row
+      unfolding ownShare share inItsRun
+      share-in e = simp (eq-eqb _ _ own-row, eq-eqb _ _ same, ← lasts, ← at, e)
 
-share-small : (h : ℕ) (schedule row : ScheduleRow) → PermittedSchedule row → share h schedule row ≤ mostHour
-unfolding share
-share-small h schedule row r = go (inItsRun h schedule row)
-  where
-    go : (t : Bool) → cond t (hourCost row) 0 ≤ mostHour
-    go true = hour-small row r
-    go false = omega arith
+      pub share-out : inRun h minrun k ≡ false → ownShare u h schedule row ≡ 0
+      unfolding ownShare share inItsRun
+      share-out e = simp (eq-eqb _ _ own-row, eq-eqb _ _ same, ← lasts, ← at, e)
 
-run-small :
-    (h : ℕ) (schedule : ScheduleRow) (rows : List ScheduleRow) → ((row : ScheduleRow) → Among row rows → PermittedSchedule row) →
-    runCost h schedule rows ≤ length rows * mostHour
-unfolding runCost
-run-small h schedule [] r = omega arith
-run-small h schedule (row ∷ rows) r =
-    omega (
-      arith,
-      share-small h schedule row (r row (first refl)),
-      run-small h schedule rows (λ other m. r other (later m)),
-    )
+  share-small : PermittedSchedule row → ownShare u h schedule row ≤ mostHour
+  unfolding ownShare share
+  share-small r = go (eqb (row .unit) u) (inItsRun h schedule row)
+    where
+      go : (t v : Bool) → cond t (cond v (hourCost row) 0) 0 ≤ mostHour
+      go true true = hour-small row r
+      go true false = omega arith
+      go false v = omega arith
 
-module _ (n : ℕ) (cells : List ℕ) (h : ℕ) (schedule : ScheduleRow) where
-  pub unit-run-small : UnitRows n cells → runCost h schedule (scheduleRows n cells) ≤ 1024 * mostHour
-  unit-run-small u =
-      omega (arith, run-small h schedule (scheduleRows n cells) (u .ranged), schedule-length n cells, u .few)
+-- the cost of a run, added up from the last row of all to the first
+module _ (u h : ℕ) (schedule : ScheduleRow) where
+  abbrev summed : List ScheduleRow → ℕ
+  summed rows = foldr (λ (row : ScheduleRow) (sum : ℕ). sum + ownShare u h schedule row) 0 rows
 
-  -- one row further
-  pub run-next :
-      (i : ℕ) → i < n →
-      runCost h schedule (drop i (scheduleRows n cells))
-      ≡ share h schedule (rowAt cells i) + runCost h schedule (drop (i + 1) (scheduleRows n cells))
-  unfolding runCost
-  run-next i l = rw (rows-next n cells i l)
+  run-own : (rows : List ScheduleRow) → runCost h schedule (own u rows) ≡ summed rows
+  unfolding runCost own those ownShare
+  run-own [] = refl
+  run-own (row ∷ rows) = go (eqb (row .unit) u) (run-own rows)
+    where
+      go :
+          (t : Bool) → runCost h schedule (own u rows) ≡ summed rows →
+          runCost h schedule (cond t (row ∷ own u rows) (own u rows)) ≡ summed rows + cond t (share h schedule row) 0
+      go true more = omega (arith, more)
+      go false more = omega (arith, more)
 
-  pub run-over : (i : ℕ) → n ≤ i → runCost h schedule (drop i (scheduleRows n cells)) ≡ 0
-  unfolding runCost
-  run-over i l = rw (rows-end n cells i l)
+  run-small :
+      (rows : List ScheduleRow) → ((row : ScheduleRow) → Among row rows → PermittedSchedule row) → summed rows ≤ length rows * mostHour
+  run-small [] r = omega arith
+  run-small (row ∷ rows) r =
+      omega (
+        arith,
+        share-small u h schedule row (r row (first refl)),
+        run-small rows (λ other m. r other (later m)),
+      )
+
+  pub own-run-small : (n : ℕ) (cells : List ℕ) → ScheduleCells n cells → runCost h schedule (own u (scheduleRows n cells)) ≤ mostLinked * mostHour
+  own-run-small n cells c =
+      rw (run-own (scheduleRows n cells))
+      (omega (arith, run-small (scheduleRows n cells) (c .ranged), schedule-length n cells, c .few))
+
+-- the run of the schedule at a place, along its links
+module _ (n : ℕ) (cells : List ℕ) (h s : ℕ) where
+  abbrev runOf : ℕ
+  runOf = runCost h (scheduleAt cells s) (own (scheduleAt cells s .unit) (scheduleRows n cells))
+
+  abbrev shareAt : ℕ → ℕ
+  shareAt j = ownShare (scheduleAt cells s .unit) h (scheduleAt cells s) (scheduleAt cells j)
+
+  abbrev pub shareAdded : ℕ → ℕ → ℕ
+  shareAdded sum j = sum + shareAt j
+
+  run-down : runOf ≡ down shareAdded 0 n
+  run-down =
+      run-own (scheduleAt cells s .unit) h (scheduleAt cells s) (scheduleRows n cells)
+      ∙ rows-down cells (λ (sum : ℕ) (row : ScheduleRow). sum + ownShare (scheduleAt cells s .unit) h (scheduleAt cells s) row) 0 n
+
+  -- rows of other keys add nothing
+  idle : (sum j : ℕ) → (scheduleKey cells j ≡ scheduleKey cells s → ⊥) → shareAdded sum j ≡ sum
+  idle sum j other =
+      let nothing : 0 ≡ shareAt j = ⊎-elim of-unit (share-unit (scheduleAt cells s .unit) h (scheduleAt cells s) (scheduleAt cells j)) (eq-or-ne (scheduleAt cells j .unit) (scheduleAt cells s .unit)) in
+      omega (arith, nothing)
+    where
+      of-unit : scheduleAt cells j .unit ≡ scheduleAt cells s .unit → 0 ≡ shareAt j
+      of-unit e =
+          share-schedule (scheduleAt cells s .unit) h (scheduleAt cells s) (scheduleAt cells j) e
+          (λ (f : scheduleAt cells j .schedule ≡ scheduleAt cells s .schedule). other (rw (e, f)))
+
+  pub run-walk :
+      (x : ℕ) (links : List ℕ) → Linked (scheduleKey cells) scheduleKeys n links → x ≡ scheduleKey cells s → x < scheduleKeys →
+      Walk shareAdded 0 n links 0 (getD links (mostLinked + x) 0)
+  run-walk x links l is one = walk-key shareAdded 0 x l one (λ sum j other. idle sum j (λ e. other (e ∙ sym is)))
+
+  -- a share more fits
+  pub run-fits :
+      (links : List ℕ) (sum left : ℕ) → ScheduleCells n cells → Walk shareAdded 0 n links sum left → 0 < left →
+      sum + shareAt (left - 1) ≤ mostLinked * mostHour
+  run-fits links sum left c w some =
+      omega (
+        arith,
+        own-run-small (scheduleAt cells s .unit) h (scheduleAt cells s) n cells c,
+        run-down,
+        walk-step shareAdded 0 n links sum left w some,
+        down-more shareAt (sum + shareAt (left - 1)) (left - 1),
+      )
+
+  pub run-over : (sum : ℕ) → sum ≡ down shareAdded 0 n → sum ≡ runOf
+  run-over sum e = e ∙ sym run-down

@@ -1,5 +1,6 @@
-// The choice of a unit's schedule from its rows: what an hour and a run of a schedule cost, and the
-// eligible schedule of least cost. A unit's rows are a lent run of cells, nine a row.
+// The choice of a unit's schedule: what an hour and a run of a schedule cost, and the eligible schedule
+// of least cost. The rows of a study are a lent run of cells, and those of the unit, or of a schedule,
+// are found along links, from the last to the first.
 mod choosing;
 mod costs;
 mod rows;

@@ -10,18 +10,18 @@ use Rattle.tables.specs.declared.files.File.the-variants.{Schedules}
 use Rattle.tables.specs.declared.files.Reading.{Reading}
 use Rattle.tables.specs.declared.files.Reading.the-variants.{Rows}
 use Rattle.filing.proofs.Rooms.{schedules-room}
-use Rattle.filing.proofs.StepLaws.{schedules-fit, schedules-in-ranges}
-use Rattle.commitment.specs.Ranges.{UnitRows}
+use Rattle.filing.proofs.AloneLaws.{schedules-fit, schedules-in-ranges}
+use Rattle.commitment.specs.Ranges.{ScheduleCells}
 
 pub room-enough : (n : ℕ) → 9216 ≤ n → room Schedules ≤ n
 room-enough n h = omega (arith, schedules-room)
 
 pub read-rows :
-    (s old new : List ℕ) (r : Reading) (n : ℕ) → FileRead Schedules s old new r → r ≡ Rows n → 9216 ≤ length new → UnitRows n new
+    (s old new : List ℕ) (r : Reading) (n : ℕ) → FileRead Schedules s old new r → r ≡ Rows n → 9216 ≤ length new → ScheduleCells n new
 read-rows s old new r n w e h =
     let fits = schedules-fit s old new r w n e (room-enough _ h) in
     record {
       few = fits .0;
       room = fits .1;
-      ranged = λ q m. all-mem (schedules-in-ranges s old new r w n e 0 (omega arith) .ranges) m;
+      ranged = λ q m. all-mem (schedules-in-ranges s old new r w n e) m;
     }

@@ -1,11 +1,19 @@
 // What a case prints: the schedule that is chosen, its kind and its cost. Assumes nothing.
-ghost use Rattle.commitment.specs.Ranges.{UnitRows};
+ghost use Prim.Native.Nat.{_*_, _≤_};
+ghost use lib.ListN.{length};
+ghost use Rattle.cells.specs.Views.{scheduleWidth};
+ghost use Rattle.links.specs.Links.{RowsLinked};
+ghost use Rattle.commitment.specs.Ranges.{ScheduleCells};
 use cases::print;
 use cases::unreadable;
+use cells::schedule::UNIT;
+use cells::schedule::cell;
 use choice::Choice;
 use choice::Chosen;
 use choice::DayKind;
 use libc::STDOUT_FILENO;
+use links::LENGTH;
+use schedules::link_rows;
 use tables::File;
 use tables::Kind;
 use tables::Reading;
@@ -25,12 +33,28 @@ pub fn case(hour: u64, is_exposed: bool, day: DayKind, schedules: &[u8]) {
 }
 
 fn choose(cells: &[u64], n: usize, hour: u64, is_exposed: bool, day: DayKind)
-    requires { ⌜ UnitRows n (now cells) ⌝ }
+    requires { ⌜ ScheduleCells n (now cells) ⌝ }
 {
-    match commitment::choose(cells, n, hour, is_exposed, day) {
+    let mut links = [0u16; LENGTH];
+    link_rows(cells, n, &mut links);
+    choose_linked(cells, n, &links, hour, is_exposed, day);
+}
+
+fn choose_linked(cells: &[u64], n: usize, links: &[u16], hour: u64, is_exposed: bool, day: DayKind)
+    requires { ⌜ ScheduleCells n (now cells) ⌝ }
+    requires { ⌜ RowsLinked (now cells) n (now links) ⌝ }
+{
+    match commitment::choose(cells, n, links, unit(cells, n), hour, is_exposed, day) {
         Chosen::Schedule(c) => print_choice(c),
         Chosen::Nothing => print(b"nothing\n"),
     }
+}
+
+// The unit of the first row; 0, which no unit has, where there is no row.
+fn unit(cells: &[u64], n: usize) -> u64
+    requires { ⌜ n * scheduleWidth ≤ length (now cells) ⌝ }
+{
+    if n == 0 { 0 } else { cell(cells, 0, UNIT) }
 }
 
 fn print_choice(c: Choice) {

@@ -1,6 +1,6 @@
 pub mod ChoosingLaws
 pub mod DecidedRows
-pub mod DecidingLaws
+pub mod LayingLaws
 pub mod StandingLaws
 pub mod TestingLaws
 pub mod UnitLaws

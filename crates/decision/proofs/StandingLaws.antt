@@ -8,41 +8,43 @@ use borrow.Author.Tests.{lt-ltb, le-ltb}
 use lib.ListN.{take, drop, length-map}
 use lib.Seq.{take-at}
 use Rattle.base.specs.Writing.{Wrote}
-use Rattle.tables.specs.Rows.{ConstraintRow, SupplyRow, constraintRow, supplyRows}
+use Rattle.tables.specs.Rows.{SupplyRow, supplyRows}
+use Rattle.tables.specs.declared.constraint.ConstraintRow.{ConstraintRow}
 use Rattle.tables.specs.Table.{columnAt, allColumns, constraintColumns, supplyColumns, schedulesColumns}
-use Rattle.tables.proofs.RowViews.{supply-length}
+use Rattle.cells.proofs.RowViews.{supply-length}
 use Rattle.market.specs.Clearing.{needOf, short, clearing, clearingRow, eligibleSupply}
 use Rattle.market.specs.Parties.{parties, amountOf, amounts}
-use Rattle.offers.specs.Ranges.{cellsRow, mostRelief}
+use Rattle.cells.specs.Views.{supplyAt}
+use Rattle.offers.specs.Ranges.{mostRelief}
 use Rattle.offers.proofs.CellLaws.{row-at}
 use Rattle.market.proofs.ClearingLaws.{clearing-clears}
 use Rattle.judge.specs.Decision.{untested, cleared}
 use Rattle.decision.specs.Standing.{MarketCells, standing, Stands}
 use Rattle.decision.specs.declared.standing.Standing.the-variants.{Short, Cleared}
 
-module _ (constraint : List ℕ) (n : ℕ) (cells : List ℕ) (market : MarketCells constraint n cells) where
-  pub relief-fits : constraintRow constraint .relief ≤ mostRelief
+module _ (c : ConstraintRow) (n : ℕ) (cells : List ℕ) (market : MarketCells c n cells) where
+  pub relief-fits : c .relief ≤ mostRelief
   unfolding columnAt allColumns constraintColumns supplyColumns schedulesColumns
   relief-fits = market .permitted .relief
 
-  some-need : 0 < needOf (constraintRow constraint .relief)
+  some-need : 0 < needOf (c .relief)
   unfolding needOf
   some-need = omega (arith, market .permitted .some-relief)
 
   -- a market that is not short has a row that clears
-  module _ (enough : untested (constraintRow constraint) (supplyRows n cells) ≡ false) where
-    pub clears-within : clearing (constraintRow constraint .cutoff) (needOf (constraintRow constraint .relief)) (supplyRows n cells) < n
+  module _ (enough : untested c (supplyRows n cells) ≡ false) where
+    pub clears-within : clearing (c .cutoff) (needOf (c .relief)) (supplyRows n cells) < n
     unfolding untested
     clears-within =
         omega (
           arith,
-          clearing-clears (constraintRow constraint .cutoff) (needOf (constraintRow constraint .relief)) (supplyRows n cells) (omega (arith, market .permitted .some-cutoff)) some-need enough .0,
+          clearing-clears (c .cutoff) (needOf (c .relief)) (supplyRows n cells) (omega (arith, market .permitted .some-cutoff)) some-need enough .0,
           supply-length n cells,
         )
 
     pub cleared-row :
-        (q : ℕ) → q ≡ clearing (constraintRow constraint .cutoff) (needOf (constraintRow constraint .relief)) (supplyRows n cells) →
-        cellsRow cells q ≡ cleared (constraintRow constraint) (supplyRows n cells)
+        (q : ℕ) → q ≡ clearing (c .cutoff) (needOf (c .relief)) (supplyRows n cells) →
+        supplyAt cells q ≡ cleared c (supplyRows n cells)
     unfolding cleared clearingRow
     cleared-row q e = rw e (sym (row-at n cells _ clears-within))
 
@@ -69,15 +71,15 @@ module _ (c : ConstraintRow) (supply : List SupplyRow) (x y : ℕ) (e : x ≡ el
 
 -- what was listed and added, as the calls say it
 module _
-    (constraint : List ℕ) (n : ℕ) (cells : List ℕ) (market : MarketCells constraint n cells)
-    (enough : untested (constraintRow constraint) (supplyRows n cells) ≡ false)
+    (c : ConstraintRow) (n : ℕ) (cells : List ℕ) (market : MarketCells c n cells)
+    (enough : untested c (supplyRows n cells) ≡ false)
     (q count : ℕ) (old ps old-amounts amounts′ : List ℕ)
-    (y : ℕ) (its-need : y ≡ needOf (constraintRow constraint .relief))
-    (found : q ≡ clearing (constraintRow constraint .cutoff) y (supplyRows n cells))
+    (y : ℕ) (its-need : y ≡ needOf (c .relief))
+    (found : q ≡ clearing (c .cutoff) y (supplyRows n cells))
     (listed : Wrote (parties (supplyRows n cells)) count old ps)
   where
-    clears : q ≡ clearing (constraintRow constraint .cutoff) (needOf (constraintRow constraint .relief)) (supplyRows n cells)
-    clears = found ∙ ap (λ (z : ℕ). clearing (constraintRow constraint .cutoff) z (supplyRows n cells)) its-need
+    clears : q ≡ clearing (c .cutoff) (needOf (c .relief)) (supplyRows n cells)
+    clears = found ∙ ap (λ (z : ℕ). clearing (c .cutoff) z (supplyRows n cells)) its-need
 
     pub listed-all : take count ps ≡ parties (supplyRows n cells)
     listed-all = rw (listed .written, listed .counted) (take-at (parties (supplyRows n cells)) _ _ refl)
@@ -86,14 +88,14 @@ module _
     count-few = omega (arith, listed .counted, market .few-parties)
 
     pub clears-inside : q < n
-    clears-inside = omega (arith, clears, clears-within constraint n cells market enough)
+    clears-inside = omega (arith, clears, clears-within c n cells market enough)
 
     amount : ℕ → ℕ
-    amount = amountOf (constraintRow constraint .cutoff) (cleared (constraintRow constraint) (supplyRows n cells)) (supplyRows n cells)
+    amount = amountOf (c .cutoff) (cleared c (supplyRows n cells)) (supplyRows n cells)
 
     pub stands-cleared :
-        amounts′ ≡ map (amountOf (constraintRow constraint .cutoff) (cellsRow cells q) (supplyRows n cells)) (take count ps) ++ drop count old-amounts →
-        Stands (constraintRow constraint) (supplyRows n cells) ps amounts′ (Cleared q count)
+        amounts′ ≡ map (amountOf (c .cutoff) (supplyAt cells q) (supplyRows n cells)) (take count ps) ++ drop count old-amounts →
+        Stands c (supplyRows n cells) ps amounts′ (Cleared q count)
     unfolding standing amounts amount
     stands-cleared added =
         record {
@@ -101,6 +103,6 @@ module _
           listed = λ _. rw (← listed .counted) listed-all;
           added =
               λ _.
-              rw (added, listed-all, cleared-row constraint n cells market enough q clears)
+              rw (added, listed-all, cleared-row c n cells market enough q clears)
               (take-at (map amount (parties (supplyRows n cells))) (drop count old-amounts) _ (length-map (parties (supplyRows n cells)) amount));
         }

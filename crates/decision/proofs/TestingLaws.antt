@@ -5,18 +5,20 @@ use mathlib.Core.Bool.{Bool, true, false}
 use mathlib.Core.List.{List}
 use native.Mathlib.Omega.{arith}
 use lib.ListN.{length, take, length-map, length-take}
-use Rattle.tables.specs.Rows.{ConstraintRow, SupplyRow, constraintRow, supplyRows}
-use Rattle.tables.proofs.RowViews.{supply-length}
+use Rattle.numbers.specs.Numbers.{placeOf}
+use Rattle.tables.specs.Rows.{SupplyRow, supplyRows}
+use Rattle.tables.specs.declared.constraint.ConstraintRow.{ConstraintRow}
+use Rattle.cells.proofs.RowViews.{supply-length}
 use Rattle.market.specs.Clearing.{needOf, clearing}
 use Rattle.market.specs.Parties.{party, parties, amountOf, amounts}
 use Rattle.market.proofs.AmountLaws.{amounts-limited}
 use Rattle.pivotal.specs.Tally.{Limited}
 use Rattle.pivotal.specs.Test.{left, pivotal}
-use Rattle.choice.specs.Exposure.{exposed}
+use Rattle.choice.specs.Exposure.{U, P, F, exposed}
+use Rattle.judge.specs.Answer.{verdictLetter}
 use Rattle.judge.specs.Decision.{
   need,
   unitRow,
-  placeOf,
   untested,
   leftOf,
   verdictOf,
@@ -90,14 +92,14 @@ module _ (c : ConstraintRow) (supply : List SupplyRow) (u : ℕ) (w : SupplyRow)
 
   pub test-short :
       untested c supply ≡ true → (e : Bool) → e ≡ hasEligible c supply u →
-      record { supplier = x; verdict = 0x55; left = 0; exposed = e } ≡ unitTest c supply u
+      record { unit = u; supplier = x; verdict = verdictLetter U; left = 0; exposed = e } ≡ unitTest c supply u
   unfolding unitTest verdictOf leftShown exposedUnit exposed
   test-short f e g = simp (f, g, supplier-shown)
 
   module _ (enough : untested c supply ≡ false) (remains : ℕ) (l : remains ≡ leftOf c supply (party (unitRow supply u))) where
     pub test-failed :
         pivotal remains (needOf (c .relief)) ≡ true → (e : Bool) → e ≡ hasRelevant c supply u →
-        record { supplier = x; verdict = 0x46; left = remains; exposed = e } ≡ unitTest c supply u
+        record { unit = u; supplier = x; verdict = verdictLetter F; left = remains; exposed = e } ≡ unitTest c supply u
     unfolding unitTest verdictOf leftShown exposedUnit exposed
     test-failed f e g =
         let fails : pivotal (leftOf c supply (party (unitRow supply u))) (needOf (c .relief)) ≡ true = rw l at f in
@@ -105,7 +107,7 @@ module _ (c : ConstraintRow) (supply : List SupplyRow) (u : ℕ) (w : SupplyRow)
 
     pub test-passed :
         pivotal remains (needOf (c .relief)) ≡ false →
-        record { supplier = x; verdict = 0x50; left = remains; exposed = false } ≡ unitTest c supply u
+        record { unit = u; supplier = x; verdict = verdictLetter P; left = remains; exposed = false } ≡ unitTest c supply u
     unfolding unitTest verdictOf leftShown exposedUnit exposed
     test-passed f =
         let passes : pivotal (leftOf c supply (party (unitRow supply u))) (needOf (c .relief)) ≡ false = rw l at f in
@@ -119,18 +121,18 @@ unfolding hasEligible wantedRow
 eligible-wanted c supply cells u e f = f
 
 module _
-    (constraint : List ℕ) (n : ℕ) (cells : List ℕ) (market : MarketCells constraint n cells) {q : ℕ} {ps amounts′ : List ℕ}
-    (in-market : InMarket (constraintRow constraint) (supplyRows n cells) q ps amounts′)
+    (c : ConstraintRow) (n : ℕ) (cells : List ℕ) (market : MarketCells c n cells) {q : ℕ} {ps amounts′ : List ℕ}
+    (in-market : InMarket c (supplyRows n cells) q ps amounts′)
   where
     pub relevant-wanted :
         (u : ℕ) (e : Bool) →
-        e ≡ anyOf u (wantedRow cells (constraintRow constraint .cutoff) (Relevant q)) (supplyRows n cells) →
-        e ≡ hasRelevant (constraintRow constraint) (supplyRows n cells) u
+        e ≡ anyOf u (wantedRow cells (c .cutoff) (Relevant q)) (supplyRows n cells) →
+        e ≡ hasRelevant c (supplyRows n cells) u
     unfolding hasRelevant wantedRow
-    relevant-wanted u e f = rw (← cleared-row constraint n cells market (in-market .enough) q (in-market .clears)) f
+    relevant-wanted u e f = rw (← cleared-row c n cells market (in-market .enough) q (in-market .clears)) f
 
     pub market-clears : q < n
-    market-clears = omega (arith, in-market .clears, clears-within constraint n cells market (in-market .enough))
+    market-clears = omega (arith, in-market .clears, clears-within c n cells market (in-market .enough))
 
     pub market-limited : Limited amounts′
     market-limited =
@@ -140,6 +142,6 @@ module _
     pub remains-left :
         (u : ℕ) (w : SupplyRow) → w ≡ unitRow (supplyRows n cells) u → (k place remains : ℕ) → k ≡ party w → place ≡ placeOf k ps →
         remains ≡ left amounts′ place →
-        remains ≡ leftOf (constraintRow constraint) (supplyRows n cells) (party (unitRow (supplyRows n cells) u))
+        remains ≡ leftOf c (supplyRows n cells) (party (unitRow (supplyRows n cells) u))
     unfolding leftOf
     remains-left u w found k place remains a b d = d ∙ rw (b, a, found, in-market .all-parties, in-market .all-amounts)

@@ -1,32 +1,32 @@
--- Laws of the searches among a unit's supply rows that stand in cells, and of the place of a number in a list. Assumes nothing.
-use Prim.Native.Nat.{ℕ, suc, _+_, _*_, _≤_, _<_}
+-- Laws of the searches among a unit's supply rows that stand in cells, and of the units of supply. Assumes nothing.
+use Prim.Native.Nat.{ℕ, zero, suc, _+_, _*_, _≤_, _<_}
 use mathlib.Core.Path.{_≡_, refl, sym, _∙_}
-use mathlib.Core.Bool.{Bool, true, false, _||_}
-use mathlib.Core.List.{List}
+use mathlib.Core.Bool.{Bool, true, false, _||_, or-true}
+use mathlib.Core.List.{List, [], _∷_}
 use mathlib.Core.Logic.{⊎-elim}
-use mathlib.Core.Option.{Option·getD}
+use native.Mathlib.Nat.{le-of-suc-le-suc, not-suc-le-zero}
 use native.Mathlib.Omega.{arith}
 use lib.Dec.{eqb}
-use lib.ListN.{length, getD, drop}
-use lib.Seq.{getD-drop}
-use Rattle.base.specs.Search.{any, first}
+use lib.ListN.{length, getD, take, drop}
+use lib.Seq.{getD-take, length-take-le}
+use borrow.Author.Tests.{eq-eqb}
+use Rattle.base.specs.Rising.{among}
+use Rattle.base.specs.Search.{any}
 use Rattle.base.proofs.Finds.{find-here, find-later}
-use Rattle.base.proofs.Lists.{drop-next, drop-end}
 use Rattle.base.proofs.Tests.{false-true, lt-or-ge, either}
 use Rattle.tables.specs.Rows.{SupplyRow, supplyRows}
-use Rattle.offers.specs.Ranges.{cellsRow}
+use Rattle.cells.specs.Views.{supplyWidth, supplyAt}
 use Rattle.offers.proofs.CellLaws.{rows-next, rows-end}
-use Rattle.judge.specs.Decision.{ofUnit, unitRow, placeOf}
-use Rattle.decision.specs.Units.{UnitFound, anyOf}
+use Rattle.supply.proofs.UnitLaws.{among-units}
+use Rattle.judge.specs.Decision.{ofUnit, unitRow}
+use Rattle.decision.specs.Units.{UnitsOf, UnitFound, anyOf}
 
-pub of-unit : (cells : List ℕ) (i u : ℕ) → eqb (getD cells (i * 5) 0) u ≡ ofUnit u (cellsRow cells i)
+pub of-unit : (cells : List ℕ) (i u : ℕ) → eqb (getD cells (i * supplyWidth + 0) 0) u ≡ ofUnit u (supplyAt cells i)
 unfolding ofUnit
-of-unit cells i u =
-    let here : i * 5 + 0 ≡ i * 5 = omega arith in
-    rw (getD-drop (i * 5) cells 0 0, here)
+of-unit cells i u = refl
 
 module _ (p : SupplyRow → Bool) (n : ℕ) (cells : List ℕ) (i : ℕ) where
-  pub any-further : i < n → any p (drop i (supplyRows n cells)) ≡ (p (cellsRow cells i) || any p (drop (i + 1) (supplyRows n cells)))
+  pub any-further : i < n → any p (drop i (supplyRows n cells)) ≡ (p (supplyAt cells i) || any p (drop (i + 1) (supplyRows n cells)))
   unfolding any
   any-further h = rw (rows-next n cells i h)
 
@@ -49,21 +49,21 @@ module _ (u n : ℕ) (cells : List ℕ) where
     seeking-within =
         ⊎-elim (λ h. h) (λ h. false-true (sym (any-over (ofUnit u) n cells i h) ∙ seeking .there)) (lt-or-ge i n)
 
-    pub seeking-found : ofUnit u (cellsRow cells i) ≡ true → UnitFound u n cells i
+    pub seeking-found : ofUnit u (supplyAt cells i) ≡ true → UnitFound u n cells i
     unfolding unitRow
     seeking-found e =
         record {
           within = seeking-within;
-          found = sym (seeking .same ∙ rw (rows-next n cells i seeking-within, find-here (ofUnit u) (cellsRow cells i) _ e));
+          found = sym (seeking .same ∙ rw (rows-next n cells i seeking-within, find-here (ofUnit u) (supplyAt cells i) _ e));
           none-before = seeking .none-before;
         }
 
-    pub seeking-later : ofUnit u (cellsRow cells i) ≡ false → Seeking u n cells (i + 1)
+    pub seeking-later : ofUnit u (supplyAt cells i) ≡ false → Seeking u n cells (i + 1)
     unfolding unitRow
     seeking-later e =
         record {
           there = simp e at (sym (any-further (ofUnit u) n cells i seeking-within) ∙ seeking .there);
-          same = seeking .same ∙ rw (rows-next n cells i seeking-within, find-later (ofUnit u) (cellsRow cells i) _ e);
+          same = seeking .same ∙ rw (rows-next n cells i seeking-within, find-later (ofUnit u) (supplyAt cells i) _ e);
           none-before = λ p. seeking .none-before p ∙ any-further _ n cells i seeking-within ∙ simp e;
         }
 
@@ -73,28 +73,19 @@ module _ (u n : ℕ) (cells : List ℕ) where
         ⊎-elim
         seeking-found
         (λ e. false-true (sym (any-over (ofUnit u) n cells (i + 1) h) ∙ seeking-later e .there))
-        (either (ofUnit u (cellsRow cells i)))
+        (either (ofUnit u (supplyAt cells i)))
 
--- a number is sought in a list, and isn't among those before place i
-pub Sought : ℕ → List ℕ → ℕ → Type 0
-Sought k list i = placeOf k list ≡ Option·getD (first (λ (j : ℕ). eqb j k) i (drop i list)) 0
+among-getD : (l : List ℕ) (i : ℕ) → i < length l → among (getD l i 0) l ≡ true
+unfolding among
+among-getD [] i h = absurd (not-suc-le-zero h)
+among-getD (x ∷ l) zero h = rw (eq-eqb x x refl)
+among-getD (x ∷ l) (suc i) h = rw (among-getD l i (le-of-suc-le-suc h)) (or-true (eqb (getD l i 0) x))
 
-module _ (k : ℕ) (list : List ℕ) where
-  pub sought-none : Sought k list 0
-  unfolding Sought placeOf
-  sought-none = refl
-
-  module _ (i : ℕ) (sought : Sought k list i) where
-    pub sought-here : i < length list → eqb (getD list i 0) k ≡ true → i ≡ placeOf k list
-    unfolding Sought first
-    sought-here h e = sym (sought ∙ rw (drop-next 0 i list h, e))
-
-    pub sought-later : i < length list → eqb (getD list i 0) k ≡ false → Sought k list (i + 1)
-    unfolding Sought first
-    sought-later h e =
-        let next : suc i ≡ i + 1 = omega arith in
-        sought ∙ rw (drop-next 0 i list h, e, next)
-
-    pub sought-over : length list ≤ i → 0 ≡ placeOf k list
-    unfolding Sought first
-    sought-over h = sym (sought ∙ rw (drop-end i list h))
+-- the units of supply are such, by their places
+pub unit-there :
+    (k : ℕ) (rows : List SupplyRow) (us : List ℕ) (i : ℕ) → UnitsOf k rows us → i < k → any (ofUnit (getD us i 0)) rows ≡ true
+unfolding ofUnit
+unit-there k rows us i of-supply h =
+    sym (among-units (getD us i 0) rows)
+    ∙ rw (← of-supply .listed, ← getD-take k us i 0 h)
+    (among-getD (take k us) i (omega (arith, length-take-le k us (of-supply .there))))

@@ -1,3 +1,4 @@
+pub mod Choosing
 pub mod Deciding
 pub mod Standing
 pub mod Testing

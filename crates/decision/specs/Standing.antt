@@ -5,7 +5,8 @@ use mathlib.Core.Bool.{false, cond}
 use mathlib.Core.List.{List}
 use lib.ListN.{length, take}
 use Rattle.tables.specs.Ranges.{PermittedConstraint}
-use Rattle.tables.specs.Rows.{ConstraintRow, SupplyRow, constraintRow, supplyRows}
+use Rattle.tables.specs.Rows.{SupplyRow, supplyRows}
+use Rattle.tables.specs.declared.constraint.ConstraintRow.{ConstraintRow}
 use Rattle.market.specs.Clearing.{clearing}
 use Rattle.market.specs.Parties.{parties, amounts}
 use Rattle.offers.specs.Ranges.{SupplyCells}
@@ -18,10 +19,9 @@ use Rattle.decision.specs.declared.standing.Standing.the-variants.{Short
 abbrev pub mostParties : ℕ
 mostParties = mostAmounts
 
--- what holds of the constraint and supply rows of a study: they are in their ranges, and of few parties
-pub record MarketCells (constraint : List ℕ) (n : ℕ) (cells : List ℕ) : Type 0 where
-  pub room : 3 ≤ length constraint
-  pub permitted : PermittedConstraint (constraintRow constraint)
+-- what holds of the constraint and the supply rows of a study: they are in their ranges, and of few parties
+pub record MarketCells (c : ConstraintRow) (n : ℕ) (cells : List ℕ) : Type 0 where
+  pub permitted : PermittedConstraint c
   pub rows : SupplyCells n cells
   pub few-parties : length (parties (supplyRows n cells)) ≤ mostParties
 

@@ -3,7 +3,8 @@ use Prim.Native.Nat.{ℕ}
 use mathlib.Core.Path.{_≡_}
 use mathlib.Core.Bool.{false}
 use mathlib.Core.List.{List}
-use Rattle.tables.specs.Rows.{ConstraintRow, SupplyRow}
+use Rattle.tables.specs.Rows.{SupplyRow}
+use Rattle.tables.specs.declared.constraint.ConstraintRow.{ConstraintRow}
 use Rattle.market.specs.Clearing.{clearing}
 use Rattle.market.specs.Parties.{party, parties, amounts}
 use Rattle.judge.specs.Answer.{verdictLetter}
@@ -15,6 +16,7 @@ module _ (c : ConstraintRow) (supply : List SupplyRow) where
   unitTest u =
       let k = party (unitRow supply u) in
       record {
+        unit = u;
         supplier = unitRow supply u .supplier;
         verdict = verdictLetter (verdictOf c supply k);
         left = leftShown c supply k;

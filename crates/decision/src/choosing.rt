@@ -1,11 +1,14 @@
-// A unit's choice, from its own schedule rows and the cell of the day's kind for it.
+// A unit's choice, from its own schedule rows, which are found along links, and the day's kind for it.
 ghost use mathlib.Core.Path.{_≡_};
 ghost use Rattle.tables.specs.Rows.{scheduleRows};
+ghost use Rattle.links.specs.Links.{RowsLinked};
+ghost use Rattle.schedules.specs.Schedules.{own};
 ghost use Rattle.choice.specs.Choosing.{choice};
-ghost use Rattle.commitment.specs.Ranges.{UnitRows};
 ghost use Rattle.choice.specs.Schedules.{kindIn};
+ghost use Rattle.commitment.specs.Ranges.{ScheduleCells};
 ghost use Rattle.judge.specs.Decision.{chosenOr};
-ghost use Rattle.decision.specs.Deciding.{kindAt, lacksCostBy};
+ghost use Rattle.decision.specs.Choosing.{lacksCostOn};
+use crate::testing::UnitTest;
 use choice::Choice;
 use choice::Chosen;
 use choice::DayKind;
@@ -13,41 +16,41 @@ use choice::Kinds;
 use commitment::choose;
 use commitment::has_any;
 use tables::Kind;
-use tables::M;
 
-// The cell of a unit that doesn't run.
-const NOT_RUNNING: u64 = 0;
-
-fn day_kind(cell: u64) -> DayKind
-    ensures { λ r. ⌜ kindIn r ≡ kindAt cell ⌝ }
+// Whether the unit runs on cost and has no C schedule.
+pub fn lacks_cost(
+    cells: &[u64],
+    n: usize,
+    links: &[u16],
+    hour: u64,
+    unit: u64,
+    day: DayKind,
+) -> bool
+    requires { ⌜ ScheduleCells n (now cells) ⌝ }
+    requires { ⌜ RowsLinked (now cells) n (now links) ⌝ }
+    ensures { λ r. ⌜ r ≡ lacksCostOn (kindIn day) hour (own unit (scheduleRows n (now (cells .entry)))) ⌝ }
 {
-    if cell == NOT_RUNNING {
-        return DayKind::NotRunning;
-    }
-    if cell == M {
-        return DayKind::OnM;
-    }
-    DayKind::OnC
-}
-
-// Whether the unit runs on cost and has no C schedule among its `n` rows.
-pub fn lacks_cost(cells: &[u64], n: usize, hour: u64, kind: u64) -> bool
-    requires { ⌜ UnitRows n (now cells) ⌝ }
-    ensures { λ r. ⌜ r ≡ lacksCostBy hour (scheduleRows n (now (cells .entry))) kind ⌝ }
-{
-    match day_kind(kind) {
+    match day {
         DayKind::NotRunning => false,
         DayKind::OnM => false,
-        DayKind::OnC => !has_any(cells, n, hour, Kinds::OnlyC),
+        DayKind::OnC => !has_any(cells, n, links, unit, hour, Kinds::OnlyC),
     }
 }
 
-// The schedule chosen among the unit's `n` rows.
-pub fn choose_unit(cells: &[u64], n: usize, hour: u64, exposed: bool, kind: u64) -> Choice
-    requires { ⌜ UnitRows n (now cells) ⌝ }
-    ensures { λ r. ⌜ r ≡ chosenOr (choice (kindAt kind) exposed hour (scheduleRows n (now (cells .entry)))) ⌝ }
+// The schedule chosen for a unit that has been tested.
+pub fn choose_for(
+    cells: &[u64],
+    n: usize,
+    links: &[u16],
+    hour: u64,
+    test: UnitTest,
+    day: DayKind,
+) -> Choice
+    requires { ⌜ ScheduleCells n (now cells) ⌝ }
+    requires { ⌜ RowsLinked (now cells) n (now links) ⌝ }
+    ensures { λ r. ⌜ r ≡ chosenOr (choice (kindIn day) (test .exposed) hour (own (test .unit) (scheduleRows n (now (cells .entry))))) ⌝ }
 {
-    match choose(cells, n, hour, exposed, day_kind(kind)) {
+    match choose(cells, n, links, test.unit, hour, test.exposed, day) {
         Chosen::Schedule(choice) => choice,
         Chosen::Nothing => Choice {
             schedule: 0,

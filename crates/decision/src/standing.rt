@@ -1,20 +1,14 @@
 // How the market stands, before any unit is looked at.
-ghost use Prim.Native.Nat.{_≤_};
+ghost use Prim.Native.Nat.{_≤_, _<_};
 ghost use lib.ListN.{length};
-ghost use Rattle.tables.specs.Rows.{constraintRow, supplyRows};
+ghost use Rattle.tables.specs.Rows.{supplyRows};
 ghost use Rattle.decision.specs.Standing.{Stands, MarketCells, mostParties};
 use market::add_amounts;
 use market::clearing_row;
 use market::eligible_supply;
 use market::list_parties;
 use market::need_of;
-
-// The cells of the constraint's row.
-pub const HOUR: usize = 0;
-
-pub const RELIEF: usize = 1;
-
-pub const CUTOFF: usize = 2;
+use tables::ConstraintRow;
 
 // Short of the need; or the place of the row that clears, and how many parties there are.
 pub enum Standing {
@@ -24,19 +18,19 @@ pub enum Standing {
 
 // Finds how the market stands, and lays down its parties and the amount of each.
 pub fn stand(
-    constraint: &[u64],
+    constraint: ConstraintRow,
     cells: &[u64],
     n: usize,
     parties: &mut [u64],
     amounts: &mut [u64],
 ) -> Standing
-    requires { ⌜ MarketCells (now constraint) n (now cells) ⌝ }
-    requires { ⌜ mostParties ≤ length (now parties) ⌝ }
+    requires { ⌜ MarketCells constraint n (now cells) ⌝ }
+    requires { ⌜ mostParties < length (now parties) ⌝ }
     requires { ⌜ mostParties ≤ length (now amounts) ⌝ }
-    ensures { λ r. ⌜ Stands (constraintRow (now (constraint .entry))) (supplyRows n (now (cells .entry))) (now (parties .exit)) (now (amounts .exit)) r ⌝ }
+    ensures { λ r. ⌜ Stands constraint (supplyRows n (now (cells .entry))) (now (parties .exit)) (now (amounts .exit)) r ⌝ }
 {
-    let need = need_of(constraint[RELIEF]);
-    let cutoff = constraint[CUTOFF];
+    let need = need_of(constraint.relief);
+    let cutoff = constraint.cutoff;
     if eligible_supply(cells, n, cutoff) < need {
         return Standing::Short;
     }

@@ -1,16 +1,16 @@
-// A unit's supply rows, and the place of its party.
+// A unit's supply rows.
 ghost use mathlib.Core.Path.{_≡_};
 ghost use mathlib.Core.Bool.{true, _&&_};
 ghost use Rattle.base.specs.Search.{any};
 ghost use Rattle.tables.specs.Rows.{supplyRows};
-ghost use Rattle.offers.specs.Ranges.{RowCells, SupplyCells, cellsRow};
-ghost use Rattle.judge.specs.Decision.{ofUnit, placeOf};
+ghost use Rattle.cells.specs.Views.{supplyAt};
+ghost use Rattle.offers.specs.Ranges.{RowCells, SupplyCells};
+ghost use Rattle.judge.specs.Decision.{ofUnit};
 ghost use Rattle.decision.specs.Units.{UnitFound, anyOf, wantedRow, WantedCells};
+use cells::supply::UNIT;
+use cells::supply::WIDTH;
 use offers::is_eligible;
 use offers::is_relevant;
-
-// The cells of a supply row, of which the unit's is the first.
-const WIDTH: usize = 5;
 
 // The rows that expose a unit: the eligible ones, or the relevant ones where the row at a place
 // clears.
@@ -61,15 +61,15 @@ pub fn has_wanted(
 
 fn is_of(cells: &[u64], row: usize, unit: u64) -> bool
     requires { ⌜ RowCells (now cells) row ⌝ }
-    ensures { λ r. ⌜ r ≡ ofUnit unit (cellsRow (now (cells .entry)) row) ⌝ }
+    ensures { λ r. ⌜ r ≡ ofUnit unit (supplyAt (now (cells .entry)) row) ⌝ }
 {
-    cells[row * WIDTH] == unit
+    cells[row * WIDTH + UNIT] == unit
 }
 
 fn is_wanted_of(cells: &[u64], row: usize, unit: u64, cutoff: u64, wanted: Wanted) -> bool
     requires { ⌜ RowCells (now cells) row ⌝ }
     requires { ⌜ WantedCells (now cells) wanted ⌝ }
-    ensures { λ r. ⌜ r ≡ (ofUnit unit (cellsRow (now (cells .entry)) row) && wantedRow (now (cells .entry)) cutoff wanted (cellsRow (now (cells .entry)) row)) ⌝ }
+    ensures { λ r. ⌜ r ≡ (ofUnit unit (supplyAt (now (cells .entry)) row) && wantedRow (now (cells .entry)) cutoff wanted (supplyAt (now (cells .entry)) row)) ⌝ }
 {
     if is_of(cells, row, unit) {
         return is_wanted(cells, row, cutoff, wanted);
@@ -80,24 +80,10 @@ fn is_wanted_of(cells: &[u64], row: usize, unit: u64, cutoff: u64, wanted: Wante
 fn is_wanted(cells: &[u64], row: usize, cutoff: u64, wanted: Wanted) -> bool
     requires { ⌜ RowCells (now cells) row ⌝ }
     requires { ⌜ WantedCells (now cells) wanted ⌝ }
-    ensures { λ r. ⌜ r ≡ wantedRow (now (cells .entry)) cutoff wanted (cellsRow (now (cells .entry)) row) ⌝ }
+    ensures { λ r. ⌜ r ≡ wantedRow (now (cells .entry)) cutoff wanted (supplyAt (now (cells .entry)) row) ⌝ }
 {
     match wanted {
         Wanted::Eligible => is_eligible(cells, row, cutoff),
         Wanted::Relevant(clearing) => is_relevant(cells, row, clearing, cutoff),
     }
-}
-
-// The place of a number in a list, 0 where it isn't there.
-pub fn place_of(k: u64, list: &[u64]) -> usize
-    ensures { λ r. ⌜ r ≡ placeOf k (now (list .entry)) ⌝ }
-{
-    let mut i = 0;
-    while i < list.len() {
-        if list[i] == k {
-            return i;
-        }
-        i += 1;
-    }
-    0
 }

@@ -1,4 +1,6 @@
+pub mod DecidingLaws
 pub mod FormingLaws
+pub mod RefusalLaws
 pub mod ReleaseLaws
 pub mod StudyCells
 pub mod StudyFits

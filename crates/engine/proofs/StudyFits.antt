@@ -1,15 +1,29 @@
--- What committing decided rows asks, from what answering them knows. Assumes nothing.
+-- What committing the units of rows that were decided asks, from what is known of the rows. Assumes nothing.
 use Prim.Native.Nat.{ℕ, _≤_}
-use mathlib.Core.Path.{_≡_}
-use mathlib.Core.List.{List}
+use mathlib.Core.Path.{_≡_, ap}
+use mathlib.Core.List.{List, map}
 use native.Mathlib.Omega.{arith}
-use lib.ListN.{take}
-use Rattle.judge.specs.Day.{RunningUnit, mostRunning, wouldRun}
+use lib.ListN.{length, length-map}
+use Rattle.cells.specs.Views.{answerRows}
+use Rattle.cells.proofs.RowViews.{answer-length}
+use Rattle.judge.specs.Day.{RunningUnit, mostRunning}
+use Rattle.judge.specs.Study.{chosen}
 use Rattle.running.specs.Committing.{Fits}
-use Rattle.engine.specs.Studying.{RowsDecided}
+use Rattle.running.specs.View.{unitsOf}
+use Rattle.running.specs.declared.units.Units.{Units}
+use Rattle.running.proofs.CommitLaws.{chosen-units}
+use Rattle.running.proofs.ViewLaws.{counted}
+use Rattle.engine.specs.Deciding.{RowsReady}
 
-pub rows-fit :
-    (k : ℕ) (us rows : List ℕ) (running : List RunningUnit) → RowsDecided k us rows → (w : ℕ) → w ≡ wouldRun (take k us) running →
-    w ≤ mostRunning → Fits k rows running
-rows-fit k us rows running decided w counted few =
-    record { room = decided .rows-there; rising = rw (decided .by-unit) (decided .rising); few = rw (decided .by-unit) (omega (arith, counted)) }
+module _ (running : List RunningUnit) (k : ℕ) (cells : List ℕ) (us : Units) (ready : RowsReady running k cells) (chose : unitsOf us ≡ map chosen (answerRows k cells)) where
+  pub rows-fit : Fits (unitsOf us) running
+  rows-fit =
+      rw chose
+      (record {
+        rising = rw (chosen-units (answerRows k cells)) (ready .rising);
+        few = rw (chosen-units (answerRows k cells)) (ready .fit);
+      })
+
+  pub chosen-few : us .count ≤ mostRunning
+  chosen-few =
+      omega (arith, counted us, ap length chose, length-map (answerRows k cells) chosen, answer-length k cells, ready .few)

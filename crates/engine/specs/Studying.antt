@@ -1,21 +1,16 @@
--- What a study promises, for any day, any files and any buffer, and what its steps promise each other. Assumes nothing.
-use Prim.Native.Nat.{ℕ, _*_, _≤_}
+-- What a study promises, for any day, any files and any buffer, and what its last step promises. Assumes nothing.
+use Prim.Native.Nat.{ℕ}
 use mathlib.Core.Path.{_≡_}
 use mathlib.Core.Logic.{_↔_}
-use mathlib.Core.List.{List, [], _∷_, map}
+use mathlib.Core.List.{List}
 use mathlib.Core.Option.{Option, none, some}
 use lib.ListN.{length, take}
-use Rattle.base.specs.Rising.{RisingFrom}
-use Rattle.base.specs.Search.{All, firstOf}
-use Rattle.tables.specs.Rows.{ConstraintRow, SupplyRow, ScheduleRow}
 use Rattle.tables.specs.declared.files.Refusal.{Refusal}
-use Rattle.supply.specs.Supply.{mostUnits}
-use Rattle.answer.specs.Rows.{Lettered}
-use Rattle.judge.specs.Answer.{AnswerRow, answerRows, answerWidth}
-use Rattle.judge.specs.Day.{DayView}
-use Rattle.judge.specs.Decision.{decided}
+use Rattle.cells.specs.Views.{AnswerRow}
+use Rattle.filing.specs.Filing.{Files}
+use Rattle.judge.specs.Answer.{answerText}
 use Rattle.judge.specs.Right.{Right}
-use Rattle.judge.specs.Study.{Outcome, outcome, crowding, cramped, rowsRefusals, answerFile, studied}
+use Rattle.judge.specs.Study.{Outcome, outcome, cramped, answerFile, studied}
 use Rattle.engine.specs.View.{viewOf}
 use Rattle.engine.specs.declared.day.Day.{Day}
 use Rattle.engine.specs.declared.studying.Study.{Study}
@@ -40,30 +35,15 @@ pub record Comes (day : Day) (text : List ℕ) (o : Outcome) (new : List ℕ) (r
   pub very-day : (f : Refusal) → r .answer ≡ Refused f → r .day ≡ day
 
 -- demands 1 and 2: result, day and every byte of the buffer are what the definition gives
-abbrev pub Studies : Day → List ℕ → List ℕ → List ℕ → List ℕ → List ℕ → Studied → Type 0
-Studies day c s h old new r = Comes day (answerFile (viewOf day) c s h) (studied (viewOf day) c s h old) new r
+abbrev pub Studies : Day → Files → List ℕ → List ℕ → Studied → Type 0
+Studies day f old new r = Comes day (answerFile (viewOf day) f) (studied (viewOf day) f old) new r
 
 -- demand 3: "Take any accepted study, whatever day it was given, and lay any bytes beside the answer file it wrote. The two are
 -- equal exactly when" they are right. The answer file is "the bytes it writes from the start of the lent buffer".
-abbrev pub AnswersRight : Day → List ℕ → List ℕ → List ℕ → List ℕ → Studied → Type 0
-AnswersRight day c s h new r =
-    (count : ℕ) → r .answer ≡ Written count → (text : List ℕ) → (text ≡ take count new) ↔ Right (viewOf day) c s h text
+abbrev pub AnswersRight : Day → Files → List ℕ → Studied → Type 0
+AnswersRight day f new r =
+    (count : ℕ) → r .answer ≡ Written count → (text : List ℕ) → (text ≡ take count new) ↔ Right (viewOf day) f text
 
--- the outcome by the rows of the files, and once they are decided
-unfoldable pub rowsStudied : DayView → ConstraintRow → List SupplyRow → List ScheduleRow → List ℕ → Outcome
-rowsStudied d c supply scheduled buffer =
-    let rows = decided c supply scheduled (d .running) in
-    outcome d (c .hour) rows buffer
-    (firstOf (firstOf (rowsRefusals d c supply scheduled) ∷ cramped rows (length buffer) ∷ []))
-
-unfoldable pub decidedStudied : DayView → ℕ → List ℕ → List AnswerRow → List ℕ → Outcome
-decidedStudied d h us rows buffer = outcome d h rows buffer (firstOf (crowding d us ∷ cramped rows (length buffer) ∷ []))
-
--- runs that begin with k units, rising, and with their k rows
-pub record RowsDecided (k : ℕ) (us rows : List ℕ) : Type 0 where
-  pub few : k ≤ mostUnits
-  pub units-there : k ≤ length us
-  pub rows-there : k * answerWidth ≤ length rows
-  pub lettered : All Lettered (answerRows k rows)
-  pub by-unit : map (λ (r : AnswerRow). r .unit) (answerRows k rows) ≡ take k us
-  pub rising : RisingFrom 0 (take k us)
+-- answering with these rows, once they are decided: only 10 is left
+abbrev pub Answers : Day → ℕ → List AnswerRow → List ℕ → List ℕ → Studied → Type 0
+Answers day h rows old new r = Comes day (answerText rows) (outcome (viewOf day) h rows old (cramped rows (length old))) new r

@@ -5,9 +5,9 @@ ghost use Rattle.judge.specs.Day.{hourInRange, dayFormed, earlier};
 ghost use Rattle.engine.specs.View.{hourOf, viewOf};
 use crate::day::Day;
 use crate::day::LastHour;
-
-// The last hour; the first is 0.
-const LAST_HOUR: u64 = 23;
+use tables::File;
+use tables::first_column;
+use tables::in_column;
 
 impl Day {
     // Whether the day is well-formed.
@@ -35,11 +35,12 @@ impl Day {
     }
 }
 
+// An hour has the range of its column in the constraint file.
 fn hour_in_range(hour: LastHour) -> bool
     ensures { λ r. ⌜ r ≡ hourInRange (hourOf hour) ⌝ }
 {
     match hour {
         LastHour::Fresh => true,
-        LastHour::At(h) => h <= LAST_HOUR,
+        LastHour::At(h) => in_column(first_column(File::Constraint), h),
     }
 }

@@ -1,8 +1,9 @@
 // The engine: the day by value, with what is done to it.
 mod asking;
 mod day;
+mod deciding;
+mod refusals;
 mod releasing;
-mod sizes;
 mod studying;
 
 pub use day::Day;
@@ -11,9 +12,5 @@ pub use releasing::Release;
 pub use releasing::Released;
 pub use running::Running;
 pub use running::Units;
-pub use sizes::CONSTRAINT_CELLS;
-pub use sizes::SCHEDULE_CELLS;
-pub use sizes::SUPPLY_CELLS;
-pub use sizes::UNITS;
 pub use studying::Studied;
 pub use studying::Study;

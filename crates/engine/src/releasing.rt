@@ -3,6 +3,8 @@
 ghost use mathlib.Core.Path.{_≡_};
 ghost use Rattle.engine.specs.Releasing.{refusing, Releases};
 use crate::day::Day;
+use crate::refusals::ILL_FORMED;
+use crate::refusals::NOT_RUNNING;
 use tables::Refusal;
 
 // What a release answers.
@@ -16,11 +18,6 @@ pub struct Released {
     pub day: Day,
     pub answer: Release,
 }
-
-// The numbers of the refusals: a unit that isn't running, an ill-formed day.
-const NOT_RUNNING: u64 = 23;
-
-const ILL_FORMED: u64 = 24;
 
 impl Day {
     // Takes a unit out of the day.

@@ -1,16 +1,14 @@
--- Laws of filing three files: what reading answered, what the rows in the lent cells are, and that the answer of a check is
--- that of the first refusal. Assumes nothing.
+-- Laws of files that were read: what reading answered, and what the rows in the lent cells are. Assumes nothing.
 use Prim.Native.Nat.{ℕ}
 use mathlib.Core.Path.{_≡_, refl, _∙_, ap}
 use mathlib.Core.List.{List, [], _∷_, map}
-use mathlib.Core.Option.{Option, none, some, Option·map}
+use mathlib.Core.Option.{Option, none, some}
 use native.Mathlib.Omega.{arith}
 use lib.ListN.{length, take, drop, length-map}
 use lib.Seq.{getD-take}
-use Rattle.base.specs.Search.{firstOf}
 use Rattle.tables.specs.Laying.{FileRead}
-use Rattle.tables.specs.Reading.{rows, refused, refusal, reading, laid}
-use Rattle.tables.specs.Rows.{ScheduleRow, supplyRow, scheduleRow, rowsOf, supplyRows, scheduleRows}
+use Rattle.tables.specs.Reading.{rows, refusal, reading, laid}
+use Rattle.tables.specs.Rows.{constraintRow, supplyRow, scheduleRow, rowsOf, supplyRows, scheduleRows}
 use Rattle.tables.specs.Table.{width, table, constraintColumns, supplyColumns, schedulesColumns}
 use Rattle.tables.specs.Values.{cells}
 use Rattle.tables.specs.declared.files.File.{File}
@@ -19,15 +17,7 @@ use Rattle.tables.specs.declared.files.Refusal.{Refusal}
 use Rattle.tables.specs.declared.files.Reading.{Reading}
 use Rattle.tables.specs.declared.files.Reading.the-variants.{Rows as RowsRead, Refused as NotRead}
 use Rattle.tables.proofs.Accepted.{accepted}
-use Rattle.supply.specs.Checks.{unless, supplyChecked}
-use Rattle.runs.specs.Checks.{runsChecked, schedulesChecked}
-use Rattle.supply.specs.declared.checks.SupplyCheck.the-variants.{Passed, Crowded, AtOdds}
-use Rattle.runs.specs.declared.checks.ScheduleCheck.the-variants.{Passed as SchedulesPassed, AtOdds as SchedulesAtOdds, Strange, Unscheduled, Lacking}
-use Rattle.filing.specs.Filed.{ConstraintKept, SchedulesKept, supplyRefusal, schedulesRefusal, supplyUnless, schedulesUnless, supplyAnswer, schedulesAnswer}
 use Rattle.filing.specs.Filing.{rowCells, constraintOf, supplyOf, schedulesOf}
-use Rattle.schedules.specs.Schedules.{schedulesAtOdds, strange, unscheduled}
-use Rattle.runs.specs.Runs.{lacking}
-use Rattle.supply.specs.Supply.{units, crowded, supplyAtOdds}
 
 -- what reading a file answered
 module _ (f : File) (s : List ℕ) where
@@ -77,58 +67,15 @@ module _ (s old new : List ℕ) (r : Reading) where
   unfolding supplyRows supplyOf width supplyColumns
   supply-rows e w = rw (supply-count s) (ap (map supplyRow) (viewed Supply s old new r e w))
 
-  pub schedule-rows : refusal Schedules s ≡ none → FileRead Schedules s old new r → SchedulesKept s new
+  pub schedule-rows : refusal Schedules s ≡ none → FileRead Schedules s old new r → scheduleRows (length (schedulesOf s)) new ≡ schedulesOf s
   unfolding scheduleRows schedulesOf width schedulesColumns
   schedule-rows e w = rw (schedules-count s) (ap (map scheduleRow) (viewed Schedules s old new r e w))
 
   one-row : refusal Constraint s ≡ none → length (rows s) ≡ 1
   one-row e = omega (arith, accepted Constraint s e .fewest, accepted Constraint s e .most)
 
-  pub constraint-row : refusal Constraint s ≡ none → FileRead Constraint s old new r → ConstraintKept s new
+  pub constraint-row : refusal Constraint s ≡ none → FileRead Constraint s old new r → constraintRow new ≡ constraintOf s
   unfolding constraintOf width constraintColumns rowsOf
   constraint-row e w =
       let v : take 3 new ∷ [] ≡ rowCells Constraint s = rw (one-row e) at (viewed Constraint s old new r e w) in
       rw (← v, getD-take 3 new 0 0 (omega arith), getD-take 3 new 1 0 (omega arith), getD-take 3 new 2 0 (omega arith))
-
--- a check's answer is that of filing, where reading refused nothing
-pub supply-checked :
-    (s : List ℕ) → refusal Supply s ≡ none →
-    supplyAnswer (length (supplyOf s)) (supplyChecked (supplyOf s)) ≡ supplyUnless (supplyRefusal s) s
-unfolding supplyChecked supplyRefusal firstOf
-supply-checked s e = rw e (go (crowded (supplyOf s)) (supplyAtOdds (supplyOf s)))
-  where
-    go :
-        (a b : Option ℕ) →
-        supplyAnswer (length (supplyOf s)) (unless a Crowded (unless b AtOdds (Passed (length (units (supplyOf s))))))
-        ≡ supplyUnless (firstOf (Option·map (refused 5 Supply) a ∷ Option·map (refused 6 Supply) b ∷ [])) s
-    go (some p) b = refl
-    go none (some p) = refl
-    go none none = refl
-
-pub schedules-checked :
-    (hour : ℕ) (us h : List ℕ) → refusal Schedules h ≡ none →
-    schedulesAnswer (length (schedulesOf h)) (schedulesChecked hour us (schedulesOf h)) ≡ schedulesUnless (schedulesRefusal hour us h) h
-unfolding schedulesChecked runsChecked schedulesRefusal firstOf
-schedules-checked hour us h e =
-    rw e (go (schedulesAtOdds rs) (strange us rs) (unscheduled us rs) (lacking hour us rs))
-  where
-    rs : List ScheduleRow
-    rs = schedulesOf h
-
-    go :
-        (a b c d : Option ℕ) →
-        schedulesAnswer (length (schedulesOf h))
-        (unless a SchedulesAtOdds (unless b Strange (unless c Unscheduled (unless d Lacking SchedulesPassed))))
-        ≡ schedulesUnless
-        (firstOf
-        (Option·map (refused 6 Schedules) a
-        ∷ Option·map (refused 7 Schedules) b
-        ∷ Option·map (refused 8 Schedules) c
-        ∷ Option·map (refused 9 Schedules) d
-        ∷ []))
-        h
-    go (some p) b c d = refl
-    go none (some p) c d = refl
-    go none none (some u) d = refl
-    go none none none (some u) = refl
-    go none none none none = refl

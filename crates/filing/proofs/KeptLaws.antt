@@ -20,11 +20,12 @@ use Rattle.tables.specs.declared.files.File.{File}
 use Rattle.tables.specs.declared.files.File.the-variants.{Constraint, Supply, Schedules}
 use Rattle.tables.proofs.Accepted.{accepted}
 use Rattle.tables.proofs.Permitted as Permitted
-use Rattle.filing.specs.Filing.{rowCells, constraintOf, supplyOf, schedulesOf, filingRefusal}
+use Rattle.filing.specs.Filing.{Files, rowCells, constraintOf, supplyOf, schedulesOf, aloneRefusals, marketRefusals, besideRefusals, schedulesRefusals, filingRefusals, filingRefusal}
 use Rattle.filing.specs.Kept.{Kept}
+use Rattle.numbers.specs.Numbers.{numbersFrom, numbersOf}
 use Rattle.schedules.specs.Schedules.{schedulesAtOdds, strange, unscheduled}
 use Rattle.runs.specs.Runs.{lacking}
-use Rattle.supply.specs.Supply.{mostUnits, mostSuppliers, units, unitsFrom, suppliers, suppliersFrom, crowded, crowdedFrom, supplyAtOdds}
+use Rattle.supply.specs.Supply.{mostUnits, mostSuppliers, units, suppliers, crowded, crowdedFrom, supplyAtOdds}
 use Rattle.supply.specs.SupplyPromises.{tooMany}
 use Rattle.filing.proofs.FilingLaws.{rows-count, supply-count, schedules-count}
 
@@ -61,8 +62,9 @@ record Few (us ss : List ℕ) : Type 0 where
   few-suppliers : length ss ≤ mostSuppliers
 
 few-from :
-    (us ss : List ℕ) (k : ℕ) (rs : List SupplyRow) → Few us ss → crowdedFrom us ss k rs ≡ none → Few (unitsFrom us rs) (suppliersFrom ss rs)
-unfolding crowdedFrom unitsFrom suppliersFrom tooMany
+    (us ss : List ℕ) (k : ℕ) (rs : List SupplyRow) → Few us ss → crowdedFrom us ss k rs ≡ none →
+    Few (numbersFrom (λ (r : SupplyRow). r .unit) us rs) (numbersFrom (λ (r : SupplyRow). r .supplier) ss rs)
+unfolding crowdedFrom numbersFrom tooMany
 few-from us ss k [] f e = f
 few-from us ss k (r ∷ rs) f e =
     go (tooMany (length us') (length ss')) refl (λ (g : Few us' ss') (d : more ≡ none). few-from us' ss' (suc k) rs g d) e
@@ -77,7 +79,7 @@ few-from us ss k (r ∷ rs) f e =
     more = crowdedFrom us' ss' (suc k) rs
 
     Later : Type 0
-    Later = Few (unitsFrom us' rs) (suppliersFrom ss' rs)
+    Later = Few (numbersFrom (λ (q : SupplyRow). q .unit) us' rs) (numbersFrom (λ (q : SupplyRow). q .supplier) ss' rs)
 
     go : (t : Bool) → tooMany (length us') (length ss') ≡ t → (Few us' ss' → more ≡ none → Later) → cond t (some k) more ≡ none → Later
     go true q later d = let z : _≡_ {A = ℕ} 0 1 = cc in absurd (omega arith)
@@ -90,15 +92,21 @@ few-from us ss k (r ∷ rs) f e =
         d
 
 few : (rs : List SupplyRow) → crowded rs ≡ none → Few (units rs) (suppliers rs)
-unfolding crowded units suppliers
+unfolding crowded units suppliers numbersOf
 few rs e = few-from [] [] 1 rs (record { few-units = omega arith; few-suppliers = omega arith }) e
 
 pub units-few : (rs : List SupplyRow) → crowded rs ≡ none → length (units rs) ≤ mostUnits
 units-few rs e = few rs e .few-units
 
-pub kept : (c s h : List ℕ) → filingRefusal c s h ≡ none → Kept c s h
-unfolding filingRefusal
-kept c s h e =
+pub suppliers-few : (rs : List SupplyRow) → crowded rs ≡ none → length (suppliers rs) ≤ mostSuppliers
+suppliers-few rs e = few rs e .few-suppliers
+
+pub kept : (f : Files) → filingRefusal f ≡ none → Kept f
+unfolding aloneRefusals marketRefusals besideRefusals schedulesRefusals filingRefusals filingRefusal
+kept f e =
+    let c = f .constraint in
+    let s = f .supply in
+    let h = f .schedules in
     let us = units (supplyOf s) in
     let rs = schedulesOf h in
     let a = first-of-none (refusal Constraint c) _ e in
@@ -122,7 +130,7 @@ kept c s h e =
       schedules-few = rw (schedules-count h) (accepted Schedules h (d .0) .most);
       uncrowded = uncrowded;
       units-few = units-few (supplyOf s) uncrowded;
-      suppliers-few = few (supplyOf s) uncrowded .few-suppliers;
+      suppliers-few = suppliers-few (supplyOf s) uncrowded;
       supply-agrees = option-map-none (refused 6 Supply) (supplyAtOdds (supplyOf s)) (o6 .0);
       schedules-agree = option-map-none (refused 6 Schedules) (schedulesAtOdds rs) (p6 .0);
       known = option-map-none (refused 7 Schedules) (strange us rs) (p7 .0);

@@ -1,4 +1,7 @@
+pub mod AloneLaws
+pub mod FiledLaws
 pub mod FilingLaws
 pub mod KeptLaws
 pub mod Rooms
+pub mod RuleLaws
 pub mod StepLaws

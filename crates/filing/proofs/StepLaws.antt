@@ -1,235 +1,140 @@
--- Laws of the steps of filing: one for each way through the code. Assumes nothing.
-use Prim.Native.Nat.{ℕ, _*_, _≤_, _<_}
-use mathlib.Core.Path.{_≡_, refl, sym, _∙_, ap}
-use mathlib.Core.List.{List, [], _∷_, _++_}
+-- Laws of the steps of filing: constraint and supply together, and schedules beside them, one for each way through the code.
+-- Assumes nothing.
+use Prim.Native.Nat.{ℕ, _*_, _≤_}
+use mathlib.Core.Path.{_≡_, refl, sym, _∙_}
+use mathlib.Core.List.{List, []}
 use mathlib.Core.Option.{Option, none, some}
 use native.Mathlib.Omega.{arith}
-use lib.ListN.{length, getD, take}
+use lib.ListN.{length}
 use Rattle.base.specs.Search.{firstOf}
 use Rattle.base.proofs.Searches.{first-of-none, option-map-none}
-use Rattle.tables.specs.Hours.{lastHour}
-use Rattle.tables.specs.Laying.{FileRead, room}
-use Rattle.tables.specs.Reading.{refused, refusal, rows}
-use Rattle.tables.specs.Rows.{ConstraintRow, supplyRows, scheduleRows}
+use Rattle.hours.specs.Hours.{lastHour}
+use Rattle.tables.specs.Laying.{room}
+use Rattle.tables.specs.Reading.{refused, refusal}
+use Rattle.tables.specs.Rows.{scheduleRows}
+use Rattle.tables.specs.declared.constraint.ConstraintRow.{ConstraintRow}
 use Rattle.tables.specs.declared.files.File.the-variants.{Constraint, Supply, Schedules}
 use Rattle.tables.specs.declared.files.Reading.{Reading}
 use Rattle.tables.specs.declared.files.Reading.the-variants.{Rows as RowsRead, Refused as NotRead}
 use Rattle.tables.specs.declared.files.Refusal.{Refusal}
 use Rattle.tables.proofs.Accepted.{accepted}
-use Rattle.supply.specs.Checks.{SupplyChecked}
-use Rattle.runs.specs.Checks.{InRanges, schedulesChecked}
-use Rattle.filing.specs.Filed.{ConstraintKept, SupplyFiled, SchedulesFiled, RowsFiled, FilesFiled, supplyRefusal, schedulesRefusal, rowsRefusal, filed, filedUnless, supplyUnless, schedulesUnless, supplyAnswer, schedulesAnswer, rowsAnswer}
-use Rattle.filing.specs.Filing.{constraintOf, supplyOf, schedulesOf, filingRefusal}
-use Rattle.supply.specs.Supply.{mostUnits, units, crowded}
-use Rattle.supply.specs.declared.checks.SupplyCheck.{SupplyCheck}
-use Rattle.runs.specs.declared.checks.ScheduleCheck.{ScheduleCheck}
-use Rattle.filing.specs.declared.files.Filed.{Filed}
-use Rattle.filing.specs.declared.files.Filed.the-variants.{Refused}
-use Rattle.filing.specs.declared.files.SupplyFiling.{SupplyFiling}
-use Rattle.filing.specs.declared.files.SupplyFiling.the-variants.{Rows as SupplyRowsFiled, Refused as SupplyRefused}
-use Rattle.filing.proofs.FilingLaws.{was-read, was-refused, supply-count, schedules-count, supply-rows, schedule-rows, constraint-row, supply-checked, schedules-checked}
-use Rattle.filing.proofs.KeptLaws.{constraint-kept, schedules-kept, units-few}
-use Rattle.filing.proofs.Rooms.{supply-room, schedules-room}
+use Rattle.cells.specs.Views.{scheduleWidth}
+use Rattle.links.specs.Links.{RowsLinked}
+use Rattle.supply.specs.Supply.{units}
+use Rattle.schedules.specs.Schedules.{schedulesAtOdds}
+use Rattle.runs.specs.Ranges.{Checked}
+use Rattle.filing.specs.Alone.{constraintUnless, constraintFiled, supplyUnless, SupplyFiled, rowsUnless, SchedulesFiled}
+use Rattle.filing.specs.Filed.{MarketFiled}
+use Rattle.filing.specs.Filing.{constraintOf, supplyOf, schedulesOf, aloneRefusals, marketRefusals, besideRefusals, schedulesRefusals}
+use Rattle.filing.specs.declared.constraint_file.ConstraintFiling.{ConstraintFiling}
+use Rattle.filing.specs.declared.constraint_file.ConstraintFiling.the-variants.{Row, Refused as ConstraintRefused}
+use Rattle.filing.specs.declared.market.MarketFiling.the-variants.{Filed, Refused}
+use Rattle.filing.specs.declared.supply_file.SupplyFiling.{SupplyFiling}
+use Rattle.filing.specs.declared.supply_file.SupplyFiling.the-variants.{Rows as SupplyRowsFiled, Refused as SupplyRefused}
+use Rattle.filing.proofs.FilingLaws.{schedules-count}
+use Rattle.base.proofs.FirstLaws.{first-of-part, first-of-rest}
+use Rattle.filing.proofs.KeptLaws.{schedules-kept}
+use Rattle.filing.proofs.Rooms.{schedules-room}
+use Rattle.filing.proofs.RuleLaws.{some-none, rows-answered, refused-answered}
 
-some-none : {A : Type 0} {x : Refusal} → some x ≡ none → A
-some-none e = let z : _≡_ {A = ℕ} 0 1 = cc in absurd (omega arith)
+-- what the readers' answers say of the refusal they go by
+row-answered : (o : Option Refusal) (c : List ℕ) {row : ConstraintRow} → constraintUnless o c ≡ Row row → (o ≡ none) × (row ≡ constraintOf c)
+row-answered none c e = (refl, cc)
+row-answered (some x) c e = let z : _≡_ {A = ℕ} 0 1 = cc in absurd (omega arith)
 
--- the first of two lists is the first of either's first
-first-of-one : {A : Type 0} (o : Option A) → o ≡ firstOf (o ∷ [])
-unfolding firstOf
-first-of-one none = refl
-first-of-one (some x) = refl
+constraint-answered : (o : Option Refusal) (c : List ℕ) {x : Refusal} → constraintUnless o c ≡ ConstraintRefused x → o ≡ some x
+constraint-answered none c e = let z : _≡_ {A = ℕ} 0 1 = cc in absurd (omega arith)
+constraint-answered (some y) c e = cc
 
-first-of-append : {A : Type 0} (os ps : List (Option A)) → firstOf (os ++ ps) ≡ firstOf (firstOf os ∷ firstOf ps ∷ [])
-unfolding firstOf
-first-of-append [] ps = first-of-one (firstOf ps)
-first-of-append (none ∷ os) ps = first-of-append os ps
-first-of-append (some x ∷ os) ps = refl
+counts-answered :
+    (o : Option Refusal) (s : List ℕ) {n k : ℕ} → supplyUnless o s ≡ SupplyRowsFiled n k →
+    (o ≡ none) × (n ≡ length (supplyOf s)) × (k ≡ length (units (supplyOf s)))
+counts-answered none s e = (refl, cc, cc)
+counts-answered (some x) s e = let z : _≡_ {A = ℕ} 0 1 = cc in absurd (omega arith)
 
-first-of-next : {A : Type 0} (os : List (Option A)) → firstOf (none ∷ os) ≡ firstOf os
-unfolding firstOf
-first-of-next os = refl
+supply-answered : (o : Option Refusal) (s : List ℕ) {x : Refusal} → supplyUnless o s ≡ SupplyRefused x → o ≡ some x
+supply-answered none s e = let z : _≡_ {A = ℕ} 0 1 = cc in absurd (omega arith)
+supply-answered (some y) s e = cc
 
--- supply
-module _ (s old new : List ℕ) (r : Reading) (read : FileRead Supply s old new r) where
-  pub supply-unread : (us : List ℕ) {x : Refusal} → r ≡ NotRead x → SupplyFiled s new us (SupplyRefused x)
-  unfolding supplyRefusal firstOf
-  supply-unread us {x} e =
-      let no = was-refused Supply s (read .answers) e in
-      let first : supplyRefusal s ≡ some x = rw no in
-      record { answers = rw first; kept = λ z. some-none (sym first ∙ z) }
+-- the market
+module _ (c s cells us : List ℕ) {q : ConstraintFiling} (filed : q ≡ constraintFiled c) where
+  market-refused : (x : Refusal) → firstOf (marketRefusals c s) ≡ some x → MarketFiled c s cells us (Refused x)
+  market-refused x e = record { answers = rw e; kept = λ z. some-none (sym e ∙ z) }
 
-  module _ (n : ℕ) (e : r ≡ RowsRead n) where
-    supply-was-read : refusal Supply s ≡ none
-    supply-was-read = was-read Supply s (read .answers) e .0
+  pub market-unread : {x : Refusal} → q ≡ ConstraintRefused x → MarketFiled c s cells us (Refused x)
+  unfolding constraintFiled marketRefusals
+  market-unread {x} e =
+      market-refused x
+      (first-of-part (aloneRefusals Constraint c) (aloneRefusals Supply s) x
+      (constraint-answered (firstOf (aloneRefusals Constraint c)) c (sym filed ∙ e)))
 
-    supply-number : n ≡ length (supplyOf s)
-    supply-number = was-read Supply s (read .answers) e .1 ∙ sym (supply-count s)
+  module _ {row : ConstraintRow} (e : q ≡ Row row) {p : SupplyFiling} (supplied : SupplyFiled s cells us p) where
+    row-told : (firstOf (aloneRefusals Constraint c) ≡ none) × (row ≡ constraintOf c)
+    unfolding constraintFiled
+    row-told = row-answered (firstOf (aloneRefusals Constraint c)) c (sym filed ∙ e)
 
-    supply-rows-read : supplyRows n new ≡ supplyOf s
-    supply-rows-read = rw supply-number (supply-rows s old new r supply-was-read read)
+    supply-first : firstOf (marketRefusals c s) ≡ firstOf (aloneRefusals Supply s)
+    unfolding marketRefusals
+    supply-first = first-of-rest (aloneRefusals Constraint c) (aloneRefusals Supply s) (row-told .0)
 
-    pub supply-fits : room Supply ≤ length new → n * 5 ≤ length new
-    supply-fits h = omega (arith, supply-room, was-read Supply s (read .answers) e .1, accepted Supply s supply-was-read .most)
+    pub market-unsupplied : {x : Refusal} → p ≡ SupplyRefused x → MarketFiled c s cells us (Refused x)
+    market-unsupplied {x} f =
+        market-refused x (supply-first ∙ supply-answered (firstOf (aloneRefusals Supply s)) s (sym (supplied .answers) ∙ f))
 
-    pub supply-filed :
-        (us : List ℕ) (q : SupplyCheck) (a : SupplyFiling) → SupplyChecked (supplyRows n new) us q → a ≡ supplyAnswer n q → SupplyFiled s new us a
-    unfolding supplyRefusal
-    supply-filed us q a k p =
+    pub market-filed :
+        {n k : ℕ} → p ≡ SupplyRowsFiled n k →
+        MarketFiled c s cells us (Filed (record { constraint = row; rows = n; units = k }))
+    market-filed f =
+        let (passed, rows, count) = counts-answered (firstOf (aloneRefusals Supply s)) s (sym (supplied .answers) ∙ f) in
         record {
-          answers = p ∙ rw (k .answers, supply-rows-read, supply-number) (supply-checked s supply-was-read);
-          kept = λ z.
-              let uncrowded : crowded (supplyOf s) ≡ none =
-              option-map-none (refused 5 Supply) (crowded (supplyOf s))
-              (first-of-none _ _ (first-of-none (refusal Supply s) _ z .1) .0)
-              in
-              record {
-                rows = supply-rows s old new r supply-was-read read;
-                listed = rw (← supply-rows-read) (k .listed (rw supply-rows-read uncrowded));
-              };
+          answers = rw (supply-first ∙ passed, row-told .1, rows, count);
+          kept = λ _. supplied .kept passed;
         }
 
--- schedules
-module _ (h old new : List ℕ) (r : Reading) (read : FileRead Schedules h old new r) where
-  pub schedules-unread : (hour : ℕ) (us : List ℕ) {x : Refusal} → r ≡ NotRead x → SchedulesFiled hour us h new (NotRead x)
-  unfolding schedulesRefusal firstOf
-  schedules-unread hour us {x} e =
-      let no = was-refused Schedules h (read .answers) e in
-      let first : schedulesRefusal hour us h ≡ some x = rw no in
+-- schedules beside a market
+module _ (h cells links : List ℕ) {q : Reading} (read : SchedulesFiled (aloneRefusals Schedules h) h cells links q) where
+  pub beside-unread :
+      (hour : ℕ) (us : List ℕ) {x : Refusal} → q ≡ NotRead x → SchedulesFiled (schedulesRefusals hour us h) h cells links (NotRead x)
+  unfolding schedulesRefusals
+  beside-unread hour us {x} e =
+      let alone = refused-answered (firstOf (aloneRefusals Schedules h)) _ (sym (read .answers) ∙ e) in
+      let first : firstOf (schedulesRefusals hour us h) ≡ some x = first-of-part (aloneRefusals Schedules h) _ x alone in
       record { answers = rw first; kept = λ z. some-none (sym first ∙ z) }
 
-  module _ (n : ℕ) (e : r ≡ RowsRead n) where
-    schedules-were-read : refusal Schedules h ≡ none
-    schedules-were-read = was-read Schedules h (read .answers) e .0
+  module _ (n : ℕ) (e : q ≡ RowsRead n) where
+    passed : (firstOf (aloneRefusals Schedules h) ≡ none) × (n ≡ length (schedulesOf h))
+    passed = rows-answered (firstOf (aloneRefusals Schedules h)) (length (schedulesOf h)) (sym (read .answers) ∙ e)
 
-    schedules-number : n ≡ length (schedulesOf h)
-    schedules-number = was-read Schedules h (read .answers) e .1 ∙ sym (schedules-count h)
+    alone-kept : (refusal Schedules h ≡ none) × (schedulesAtOdds (schedulesOf h) ≡ none)
+    unfolding aloneRefusals
+    alone-kept =
+        let (read-whole, later) = first-of-none (refusal Schedules h) _ (passed .0) in
+        (read-whole, option-map-none (refused 6 Schedules) (schedulesAtOdds (schedulesOf h)) (first-of-none _ [] later .0))
 
-    schedule-rows-read : scheduleRows n new ≡ schedulesOf h
-    schedule-rows-read = rw schedules-number (schedule-rows h old new r schedules-were-read read)
+    rows-are : scheduleRows n cells ≡ schedulesOf h
+    rows-are = rw (passed .1) (read .kept (passed .0) .rows)
 
-    pub schedules-fit : room Schedules ≤ length new → (n ≤ 1024) × (n * 9 ≤ length new)
-    schedules-fit m =
-        let few = accepted Schedules h schedules-were-read .most in
-        let count = was-read Schedules h (read .answers) e .1 in
-        (omega (arith, count, few), omega (arith, schedules-room, count, few))
+    pub rows-linked : RowsLinked cells n links
+    rows-linked = rw (passed .1) (read .kept (passed .0) .linked)
 
-    pub schedules-in-ranges : (hour : ℕ) → hour ≤ lastHour → InRanges hour (scheduleRows n new)
-    schedules-in-ranges hour m =
-        record { hour = m; ranges = rw schedule-rows-read (schedules-kept h schedules-were-read) }
+    pub rows-fit : room Schedules ≤ length cells → n * scheduleWidth ≤ length cells
+    rows-fit m = omega (arith, schedules-room, passed .1, schedules-count h, accepted Schedules h (alone-kept .0) .most)
 
-    pub schedules-filed :
-        (hour : ℕ) (us : List ℕ) (q : ScheduleCheck) (a : Reading) → q ≡ schedulesChecked hour us (scheduleRows n new) → a ≡ schedulesAnswer n q →
-        SchedulesFiled hour us h new a
-    schedules-filed hour us q a k p =
+    pub rows-checked : (hour : ℕ) → hour ≤ lastHour → Checked hour (scheduleRows n cells)
+    rows-checked hour m =
         record {
-          answers = p ∙ rw (k, schedule-rows-read, schedules-number) (schedules-checked hour us h schedules-were-read);
-          kept = λ z. schedule-rows h old new r schedules-were-read read;
+          hour = m;
+          ranges = rw rows-are (schedules-kept h (alone-kept .0));
+          agree = rw rows-are (alone-kept .1);
         }
 
--- schedules behind supply
-module _ (s supply us : List ℕ) (q : SupplyFiling) (so-far : SupplyFiled s supply us q) where
-  pub rows-unfiled :
-      (hour : ℕ) (h schedules : List ℕ) {x : Refusal} → q ≡ SupplyRefused x → RowsFiled hour s h supply schedules us (Refused x)
-  unfolding rowsRefusal firstOf
-  rows-unfiled hour h schedules {x} e =
-      let first : rowsRefusal hour s h ≡ some x = rw (supply-was-refused (supplyRefusal s) refl) in
-      record { answers = rw first; kept = λ z. some-none (sym first ∙ z) }
-    where
-      supply-was-refused : (o : Option Refusal) → supplyRefusal s ≡ o → supplyRefusal s ≡ some x
-      supply-was-refused none n =
-          let a : q ≡ supplyUnless none s = so-far .answers ∙ ap (λ (o : Option Refusal). supplyUnless o s) n in
-          let z : _≡_ {A = ℕ} 0 1 = cc in
-          absurd (omega arith)
-      supply-was-refused (some y) n =
-          let a : q ≡ supplyUnless (some y) s = so-far .answers ∙ ap (λ (o : Option Refusal). supplyUnless o s) n in
-          cc
-
-  module _ (n k : ℕ) (e : q ≡ SupplyRowsFiled n k) where
-    passed : (supplyRefusal s ≡ none) × (n ≡ length (supplyOf s)) × (k ≡ length (units (supplyOf s)))
-    passed = go (supplyRefusal s) refl
-      where
-        go : (o : Option Refusal) → supplyRefusal s ≡ o → (supplyRefusal s ≡ none) × (n ≡ length (supplyOf s)) × (k ≡ length (units (supplyOf s)))
-        go none f =
-            let a : q ≡ supplyUnless none s = so-far .answers ∙ ap (λ (o : Option Refusal). supplyUnless o s) f in
-            (f, cc, cc)
-        go (some x) f =
-            let a : q ≡ supplyUnless (some x) s = so-far .answers ∙ ap (λ (o : Option Refusal). supplyUnless o s) f in
-            let z : _≡_ {A = ℕ} 0 1 = cc in
-            absurd (omega arith)
-
-    pub count-fits : mostUnits < length us → k ≤ length us
-    unfolding supplyRefusal
-    count-fits m =
-        let five = first-of-none _ _ (first-of-none (refusal Supply s) _ (passed .0) .1) .0 in
-        let uncrowded = option-map-none (refused 5 Supply) (crowded (supplyOf s)) five in
-        omega (arith, passed .2, units-few (supplyOf s) uncrowded)
-
-    listed : take k us ≡ units (supplyOf s)
-    listed = rw (passed .2) (so-far .kept (passed .0) .listed)
-
-    schedules-first : (hour : ℕ) (h : List ℕ) → rowsRefusal hour s h ≡ schedulesRefusal hour (units (supplyOf s)) h
-    unfolding rowsRefusal
-    schedules-first hour h = rw (passed .0) (first-of-next _ ∙ sym (first-of-one _))
-
-    pub rows-filed :
-        (hour : ℕ) (h schedules : List ℕ) (p : Reading) (a : Filed) → SchedulesFiled hour (take k us) h schedules p → a ≡ rowsAnswer n k p →
-        RowsFiled hour s h supply schedules us a
-    rows-filed hour h schedules p a f b =
+    pub beside-filed :
+        (hour : ℕ) (us : List ℕ) (a : Reading) → a ≡ rowsUnless (firstOf (besideRefusals hour us (scheduleRows n cells))) n →
+        SchedulesFiled (schedulesRefusals hour us h) h cells links a
+    unfolding schedulesRefusals
+    beside-filed hour us a held =
+        let first = first-of-rest (aloneRefusals Schedules h) (besideRefusals hour us (schedulesOf h)) (passed .0) in
         record {
-          answers =
-              b
-              ∙ rw (f .answers, listed, schedules-first hour h, passed .1, passed .2) (go (schedulesRefusal hour (units (supplyOf s)) h));
-          kept = λ z.
-              record {
-                supply-kept = so-far .kept (passed .0);
-                schedules-kept = f .kept (rw listed (sym (schedules-first hour h) ∙ z));
-              };
-        }
-      where
-        go :
-            (o : Option Refusal) →
-            rowsAnswer (length (supplyOf s)) (length (units (supplyOf s))) (schedulesUnless o h) ≡ filedUnless o s h
-        go none = refl
-        go (some x) = refl
-
--- all three
-module _ (c old constraint : List ℕ) (r : Reading) (read : FileRead Constraint c old constraint r) where
-  pub files-unfiled :
-      (s h supply schedules us : List ℕ) {x : Refusal} → r ≡ NotRead x → FilesFiled c s h constraint supply schedules us (Refused x)
-  unfolding filed filingRefusal firstOf
-  files-unfiled s h supply schedules us {x} e =
-      let no = was-refused Constraint c (read .answers) e in
-      let first : filingRefusal c s h ≡ some x = rw no in
-      record { answers = rw first; kept = λ z. some-none (sym first ∙ z) }
-
-  module _ (n : ℕ) (e : r ≡ RowsRead n) where
-    constraint-was-read : refusal Constraint c ≡ none
-    constraint-was-read = was-read Constraint c (read .answers) e .0
-
-    constraint-row-read : ConstraintKept c constraint
-    constraint-row-read = constraint-row c old constraint r constraint-was-read read
-
-    hour-read : getD constraint 0 0 ≡ constraintOf c .hour
-    hour-read = ap (λ (row : ConstraintRow). row .hour) constraint-row-read
-
-    pub hour-permitted : getD constraint 0 0 ≤ lastHour
-    hour-permitted = rw hour-read (constraint-kept c constraint-was-read .hour)
-
-    rows-first : (s h : List ℕ) → filingRefusal c s h ≡ rowsRefusal (constraintOf c .hour) s h
-    unfolding filingRefusal rowsRefusal supplyRefusal schedulesRefusal
-    rows-first s h = rw constraint-was-read (first-of-next _ ∙ first-of-append (_ ∷ _ ∷ _ ∷ []) _)
-
-    pub files-filed :
-        (s h supply schedules us : List ℕ) (a : Filed) → RowsFiled (getD constraint 0 0) s h supply schedules us a →
-        FilesFiled c s h constraint supply schedules us a
-    unfolding filed
-    files-filed s h supply schedules us a f =
-        record {
-          answers = rw (rows-first s h, ← hour-read) (f .answers);
-          kept = λ z.
-              record {
-                constraint-kept = constraint-row-read;
-                rows-kept = f .kept (rw hour-read (sym (rows-first s h) ∙ z));
-              };
+          answers = held ∙ rw (first, rows-are, passed .1);
+          kept = λ _. read .kept (passed .0);
         }

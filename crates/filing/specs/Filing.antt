@@ -1,11 +1,12 @@
--- The three files of a study as rows, or the first refusal: file by file 1, 2, 4, 3, 5, 6, 7, each over the whole file,
--- then 8, then 9 (document 01, "Refused because of the input"). Assumes nothing.
+-- The three files of a study, their rows, and their refusals as one list in document 01's order: "file by file 1, 2, 4, 3, 5,
+-- 6, 7, each over the whole file; then 8, 9". Assumes nothing.
 use Prim.Native.Nat.{ℕ}
-use mathlib.Core.List.{List, [], _∷_, map}
+use mathlib.Core.List.{List, [], _∷_, _++_, map}
 use mathlib.Core.Option.{Option, Option·map, Option·getD}
 use lib.ListN.{getD}
 use Rattle.base.specs.Search.{firstOf}
-use Rattle.tables.specs.Rows.{ConstraintRow, SupplyRow, ScheduleRow, constraintRow, supplyRow, scheduleRow}
+use Rattle.tables.specs.Rows.{SupplyRow, ScheduleRow, constraintRow, supplyRow, scheduleRow}
+use Rattle.tables.specs.declared.constraint.ConstraintRow.{ConstraintRow}
 use Rattle.tables.specs.Table.{table}
 use Rattle.tables.specs.Values.{cells}
 use Rattle.tables.specs.Reading.{rows, refused, refusal}
@@ -15,6 +16,15 @@ use Rattle.tables.specs.declared.files.Refusal.{Refusal}
 use Rattle.supply.specs.Supply.{units, crowded, supplyAtOdds}
 use Rattle.schedules.specs.Schedules.{schedulesAtOdds, strange, unscheduled}
 use Rattle.runs.specs.Runs.{lacking}
+
+-- the bytes of a study's files
+pub record Files : Type 0 where
+  pub constraint : List ℕ
+  pub supply : List ℕ
+  pub schedules : List ℕ
+
+abbrev pub files : List ℕ → List ℕ → List ℕ → Files
+files c s h = record { constraint = c; supply = s; schedules = h }
 
 -- a file's rows as cells
 unfoldable pub rowCells : File → List ℕ → List (List ℕ)
@@ -30,26 +40,51 @@ supplyOf s = map supplyRow (rowCells Supply s)
 unfoldable pub schedulesOf : List ℕ → List ScheduleRow
 schedulesOf h = map scheduleRow (rowCells Schedules h)
 
--- the first refusal of the three files
-unfoldable pub filingRefusal : List ℕ → List ℕ → List ℕ → Option Refusal
-filingRefusal c s h =
-    firstOf
-    (refusal Constraint c
-    ∷ refusal Supply s
+-- the refusals of a file alone: 1, 2, 4 and 3 by reading it, then those between its rows
+unfoldable pub aloneRefusals : File → List ℕ → List (Option Refusal)
+aloneRefusals Constraint c = refusal Constraint c ∷ []
+aloneRefusals Supply s =
+    refusal Supply s
     ∷ Option·map (refused 5 Supply) (crowded (supplyOf s))
     ∷ Option·map (refused 6 Supply) (supplyAtOdds (supplyOf s))
-    ∷ refusal Schedules h
-    ∷ Option·map (refused 6 Schedules) (schedulesAtOdds (schedulesOf h))
-    ∷ Option·map (refused 7 Schedules) (strange (units (supplyOf s)) (schedulesOf h))
-    ∷ Option·map (refused 8 Schedules) (unscheduled (units (supplyOf s)) (schedulesOf h))
-    ∷ Option·map (refused 9 Schedules) (lacking (constraintOf c .hour) (units (supplyOf s)) (schedulesOf h))
-    ∷ [])
+    ∷ []
+aloneRefusals Schedules h =
+    refusal Schedules h ∷ Option·map (refused 6 Schedules) (schedulesAtOdds (schedulesOf h)) ∷ []
+
+-- constraint and supply together
+unfoldable pub marketRefusals : List ℕ → List ℕ → List (Option Refusal)
+marketRefusals c s = aloneRefusals Constraint c ++ aloneRefusals Supply s
+
+-- the rows of schedules beside a study hour and the units of supply
+unfoldable pub besideRefusals : ℕ → List ℕ → List ScheduleRow → List (Option Refusal)
+besideRefusals hour us rs =
+    Option·map (refused 7 Schedules) (strange us rs)
+    ∷ Option·map (refused 8 Schedules) (unscheduled us rs)
+    ∷ Option·map (refused 9 Schedules) (lacking hour us rs)
+    ∷ []
+
+-- schedules as far as these
+unfoldable pub schedulesRefusals : ℕ → List ℕ → List ℕ → List (Option Refusal)
+schedulesRefusals hour us h = aloneRefusals Schedules h ++ besideRefusals hour us (schedulesOf h)
+
+-- all three files
+unfoldable pub filingRefusals : Files → List (Option Refusal)
+filingRefusals f =
+    marketRefusals (f .constraint) (f .supply)
+    ++ schedulesRefusals (constraintOf (f .constraint) .hour) (units (supplyOf (f .supply))) (f .schedules)
+
+unfoldable pub filingRefusal : Files → Option Refusal
+filingRefusal f = firstOf (filingRefusals f)
+
+-- the number of a refusal, and 0 where there is none
+abbrev pub numberOf : Option Refusal → ℕ
+numberOf o = Option·getD (Option·map (λ (r : Refusal). r .number) o) 0
 
 -- "A check .. answers 0 or the number of the first refusal, as far as 9 in the order below, that a study of them gives."
-unfoldable pub checkNumber : List ℕ → List ℕ → List ℕ → ℕ
-checkNumber c s h = Option·getD (Option·map (λ (r : Refusal). r .number) (filingRefusal c s h)) 0
+unfoldable pub checkNumber : Files → ℕ
+checkNumber f = numberOf (filingRefusal f)
 
 -- opens all of the above, for examples that compute
 unfoldable pub filing·all : Unit {0}
-unfolding rowCells constraintOf supplyOf schedulesOf filingRefusal checkNumber
+unfolding rowCells constraintOf supplyOf schedulesOf aloneRefusals marketRefusals besideRefusals schedulesRefusals filingRefusals filingRefusal checkNumber
 filing·all = tt

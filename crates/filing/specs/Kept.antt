@@ -1,8 +1,7 @@
 -- What holds of three files that filing accepts: their rows within the ranges and as many as permitted, and every rule
 -- between rows kept. Assumes nothing.
-use Prim.Native.Nat.{ℕ, _≤_}
+use Prim.Native.Nat.{_≤_}
 use mathlib.Core.Path.{_≡_}
-use mathlib.Core.List.{List}
 use mathlib.Core.Option.{none}
 use lib.ListN.{length}
 use Rattle.base.specs.Search.{All}
@@ -10,31 +9,31 @@ use Rattle.tables.specs.Ranges.{PermittedConstraint, PermittedSupply, Permitted
 use Rattle.tables.specs.Reading.{refusal}
 use Rattle.tables.specs.Table.{table}
 use Rattle.tables.specs.declared.files.File.the-variants.{Constraint, Supply, Schedules}
-use Rattle.filing.specs.Filing.{constraintOf, supplyOf, schedulesOf}
+use Rattle.filing.specs.Filing.{Files, constraintOf, supplyOf, schedulesOf}
 use Rattle.schedules.specs.Schedules.{schedulesAtOdds, strange, unscheduled}
 use Rattle.runs.specs.Runs.{lacking}
 use Rattle.supply.specs.Supply.{mostUnits, mostSuppliers, units, suppliers, crowded, supplyAtOdds}
 
-pub record Kept (c s h : List ℕ) : Type 0 where
+pub record Kept (f : Files) : Type 0 where
   -- 1, 2, 4 and 3
-  pub constraint-read : refusal Constraint c ≡ none
-  pub supply-read : refusal Supply s ≡ none
-  pub schedules-read : refusal Schedules h ≡ none
-  pub constraint-permitted : PermittedConstraint (constraintOf c)
-  pub supply-permitted : All PermittedSupply (supplyOf s)
-  pub schedules-permitted : All PermittedSchedule (schedulesOf h)
-  pub supply-few : length (supplyOf s) ≤ table Supply .mostRows
-  pub schedules-few : length (schedulesOf h) ≤ table Schedules .mostRows
+  pub constraint-read : refusal Constraint (f .constraint) ≡ none
+  pub supply-read : refusal Supply (f .supply) ≡ none
+  pub schedules-read : refusal Schedules (f .schedules) ≡ none
+  pub constraint-permitted : PermittedConstraint (constraintOf (f .constraint))
+  pub supply-permitted : All PermittedSupply (supplyOf (f .supply))
+  pub schedules-permitted : All PermittedSchedule (schedulesOf (f .schedules))
+  pub supply-few : length (supplyOf (f .supply)) ≤ table Supply .mostRows
+  pub schedules-few : length (schedulesOf (f .schedules)) ≤ table Schedules .mostRows
   -- 5
-  pub uncrowded : crowded (supplyOf s) ≡ none
-  pub units-few : length (units (supplyOf s)) ≤ mostUnits
-  pub suppliers-few : length (suppliers (supplyOf s)) ≤ mostSuppliers
+  pub uncrowded : crowded (supplyOf (f .supply)) ≡ none
+  pub units-few : length (units (supplyOf (f .supply))) ≤ mostUnits
+  pub suppliers-few : length (suppliers (supplyOf (f .supply))) ≤ mostSuppliers
   -- 6
-  pub supply-agrees : supplyAtOdds (supplyOf s) ≡ none
-  pub schedules-agree : schedulesAtOdds (schedulesOf h) ≡ none
+  pub supply-agrees : supplyAtOdds (supplyOf (f .supply)) ≡ none
+  pub schedules-agree : schedulesAtOdds (schedulesOf (f .schedules)) ≡ none
   -- 7
-  pub known : strange (units (supplyOf s)) (schedulesOf h) ≡ none
+  pub known : strange (units (supplyOf (f .supply))) (schedulesOf (f .schedules)) ≡ none
   -- 8
-  pub scheduled : unscheduled (units (supplyOf s)) (schedulesOf h) ≡ none
+  pub scheduled : unscheduled (units (supplyOf (f .supply))) (schedulesOf (f .schedules)) ≡ none
   -- 9
-  pub whole : lacking (constraintOf c .hour) (units (supplyOf s)) (schedulesOf h) ≡ none
+  pub whole : lacking (constraintOf (f .constraint) .hour) (units (supplyOf (f .supply))) (schedulesOf (f .schedules)) ≡ none

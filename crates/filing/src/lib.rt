@@ -1,6 +1,23 @@
-// The three files of a study together: read, and held to the rules between rows.
-mod files;
+// The files of a study: each is read alone as far as refusal 6, constraint and supply together, and
+// schedules beside them. Assumes nothing of the bytes.
+mod answers;
+mod constraint_file;
+mod lengths;
+mod market;
+mod refusals;
+mod rules;
+mod schedules_file;
+mod supply_file;
 
-pub use files::Filed;
-pub use files::Sizes;
-pub use files::file;
+pub use constraint_file::ConstraintFiling;
+pub use constraint_file::read_constraint;
+pub use lengths::SCHEDULE_CELLS;
+pub use lengths::SUPPLY_CELLS;
+pub use lengths::UNITS;
+pub use market::Market;
+pub use market::MarketFiling;
+pub use market::file_market;
+pub use schedules_file::file_schedules;
+pub use schedules_file::read_schedules;
+pub use supply_file::SupplyFiling;
+pub use supply_file::read_supply;

@@ -1,36 +1,43 @@
 // What a case prints. Assumes nothing.
+ghost use Rattle.filing.specs.Filed.{MarketFits};
 use cases::print;
 use cases::print_three;
-use filing::Filed;
-
-// The cells of the longest files, and a place for the unit that is one too many.
-const CONSTRAINT_CELLS: usize = 3;
-
-const SUPPLY_CELLS: usize = 1280;
-
-const SCHEDULE_CELLS: usize = 9216;
-
-const UNITS: usize = 65;
+use filing::Market;
+use filing::MarketFiling;
+use filing::SCHEDULE_CELLS;
+use filing::SUPPLY_CELLS;
+use filing::UNITS;
+use filing::file_market;
+use filing::file_schedules;
+use tables::Reading;
+use tables::Refusal;
 
 // Files three files and prints the refusal, or how many rows and units there are.
 pub fn case(constraint: &[u8], supply: &[u8], schedules: &[u8]) {
-    let mut constraint_cells = [0u64; CONSTRAINT_CELLS];
-    let mut supply_cells = [0u64; SUPPLY_CELLS];
-    let mut schedule_cells = [0u64; SCHEDULE_CELLS];
+    let mut cells = [0u64; SUPPLY_CELLS];
     let mut units = [0u64; UNITS];
-    let filed = filing::file(
-        constraint,
-        supply,
-        schedules,
-        &mut constraint_cells,
-        &mut supply_cells,
-        &mut schedule_cells,
-        &mut units,
-    );
-    match filed {
-        Filed::Rows(sizes) => print_rows(sizes.supply, sizes.schedules, sizes.units),
-        Filed::Refused(refusal) => print_three(refusal.number, refusal.file, refusal.place),
+    let filing = file_market(constraint, supply, &mut cells, &mut units);
+    match filing {
+        MarketFiling::Refused(refusal) => print_refusal(refusal),
+        MarketFiling::Filed(market) => with_market(market, schedules, &units),
     }
+}
+
+// The same of schedules, beside a market whose units are listed.
+fn with_market(market: Market, schedules: &[u8], units: &[u64])
+    requires { ⌜ MarketFits market (now units) ⌝ }
+{
+    let mut cells = [0u64; SCHEDULE_CELLS];
+    let mut links = [0u16; links::LENGTH];
+    let reading = file_schedules(market, schedules, units, &mut cells, &mut links);
+    match reading {
+        Reading::Refused(refusal) => print_refusal(refusal),
+        Reading::Rows(n) => print_rows(market.rows, n, market.units),
+    }
+}
+
+fn print_refusal(refusal: Refusal) {
+    print_three(refusal.number, refusal.file, refusal.place);
 }
 
 fn print_rows(supply: usize, schedules: usize, units: usize) {

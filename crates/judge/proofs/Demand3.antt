@@ -9,7 +9,7 @@ use Rattle.base.specs.Rising.{RisingFrom}
 use Rattle.base.specs.Search.{All, all-none, all-more}
 use Rattle.tables.specs.Ranges.{PermittedSupply}
 use Rattle.tables.specs.Rows.{SupplyRow}
-use Rattle.filing.specs.Filing.{constraintOf, supplyOf, schedulesOf}
+use Rattle.filing.specs.Filing.{Files, constraintOf, supplyOf, schedulesOf}
 use Rattle.supply.specs.Supply.{units}
 use Rattle.supply.proofs.UnitLaws.{units-rising}
 use Rattle.judge.specs.Answer.{answerText}
@@ -26,29 +26,29 @@ some-units all-none = all-none
 some-units (all-more p a) = all-more (p .some-unit) (some-units a)
 
 pub demand-3 :
-    (d : DayView) (c s h : List ℕ) → decisionRefusal d c s h ≡ none → (text : List ℕ) →
-    (text ≡ answerFile d c s h) ↔ Right d c s h text
+    (d : DayView) (f : Files) → decisionRefusal d f ≡ none → (text : List ℕ) →
+    (text ≡ answerFile d f) ↔ Right d f text
 unfolding studyRows answerFile
-demand-3 d c s h e text = (right, only)
+demand-3 d f e text = (right, only)
   where
-    rising : RisingFrom 0 (units (supplyOf s))
-    rising = units-rising (some-units (files-kept d c s h e .supply-permitted))
+    rising : RisingFrom 0 (units (supplyOf (f .supply)))
+    rising = units-rising (some-units (files-kept d f e .supply-permitted))
 
-    right : text ≡ answerFile d c s h → Right d c s h text
+    right : text ≡ answerFile d f → Right d f text
     right same =
         let (per-unit, every-row) =
-        rows-right (constraintOf c) (supplyOf s) (schedulesOf h) (d .running) rising (row-right d c s h e)
+        rows-right (constraintOf (f .constraint)) (supplyOf (f .supply)) (schedulesOf (f .schedules)) (d .running) rising (row-right d f e)
         in
         record {
-          rows = studyRows d c s h;
-          in-layout = layout-text (studyRows d c s h) text .1 same;
+          rows = studyRows d f;
+          in-layout = layout-text (studyRows d f) text .1 same;
           per-unit = per-unit;
           every-row = every-row;
         }
 
-    only : Right d c s h text → text ≡ answerFile d c s h
+    only : Right d f text → text ≡ answerFile d f
     only r =
         layout-text (r .rows) text .0 (r .in-layout)
         ∙ ap answerText
-        (rows-only (constraintOf c) (supplyOf s) (schedulesOf h) (d .running) rising (row-decided d c s h e)
+        (rows-only (constraintOf (f .constraint)) (supplyOf (f .supply)) (schedulesOf (f .schedules)) (d .running) rising (row-decided d f e)
         (r .rows) (r .per-unit) (r .every-row))

@@ -10,7 +10,8 @@ use borrow.Author.Tests.{eq-eqb, eqb-true}
 use Rattle.base.specs.Search.{any}
 use Rattle.base.proofs.Elements.{any-mem}
 use Rattle.base.proofs.Tests.{false-true, and-fst, and-snd}
-use Rattle.tables.specs.Rows.{ConstraintRow, SupplyRow}
+use Rattle.tables.specs.Rows.{SupplyRow}
+use Rattle.tables.specs.declared.constraint.ConstraintRow.{ConstraintRow}
 use Rattle.market.specs.Parties.{party}
 use Rattle.offers.specs.Relevant.{relevant}
 use Rattle.offers.specs.Supply.{eligible}

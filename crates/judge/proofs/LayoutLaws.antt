@@ -5,7 +5,8 @@ use mathlib.Core.Logic.{_↔_}
 use mathlib.Core.List.{List, [], _∷_}
 use Rattle.numeral.specs.Numeral.{digits}
 use Rattle.numeral.proofs.Laws.{numeral-digits, digits-numeral}
-use Rattle.judge.specs.Answer.{AnswerRow, line, lines, answerText}
+use Rattle.cells.specs.Views.{AnswerRow}
+use Rattle.judge.specs.Answer.{line, lines, answerText}
 use Rattle.judge.specs.Right.{Line, Lines, Lines.end, Lines.next, InLayout}
 
 -- a row's record

@@ -6,6 +6,7 @@ pub mod ExposedRight
 pub mod LayoutLaws
 pub mod OneMarket
 pub mod OwnRows
+pub mod RefusalOrder
 pub mod RisingSame
 pub mod RowLaws
 pub mod RowsToBytes

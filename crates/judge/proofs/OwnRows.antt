@@ -11,7 +11,7 @@ use borrow.Author.Tests.{eq-eqb, eqb-true, not-false}
 use Rattle.base.specs.Search.{any, All}
 use Rattle.base.proofs.Elements.{all-mem, any-mem, none-mem, mem-those, those-mem}
 use Rattle.base.proofs.Tests.{false-true, and-fst, and-snd}
-use Rattle.tables.specs.Hours.{lastHour, runEnd}
+use Rattle.hours.specs.Hours.{lastHour, runEnd}
 use Rattle.tables.specs.Ranges.{PermittedSchedule}
 use Rattle.tables.specs.Rows.{ScheduleRow}
 use Rattle.schedules.specs.Schedules.{sameSchedule, scheduleOdds, schedulesAtOdds, own, unscheduled}

@@ -4,12 +4,13 @@ use mathlib.Core.Path.{_≡_, refl}
 use mathlib.Core.List.{List, List·Memᴰ as Among}
 use mathlib.Core.Option.{none}
 use native.Mathlib.Omega.{arith}
-use Rattle.tables.specs.Rows.{ConstraintRow, SupplyRow, ScheduleRow}
-use Rattle.filing.specs.Filing.{constraintOf, supplyOf, schedulesOf}
+use Rattle.tables.specs.Rows.{SupplyRow, ScheduleRow}
+use Rattle.tables.specs.declared.constraint.ConstraintRow.{ConstraintRow}
+use Rattle.filing.specs.Filing.{Files, constraintOf, supplyOf, schedulesOf}
 use Rattle.supply.specs.Supply.{units}
 use Rattle.market.specs.Parties.{party}
 use Rattle.market.specs.Removals.{PartyOf}
-use Rattle.judge.specs.Answer.{AnswerRow}
+use Rattle.cells.specs.Views.{AnswerRow}
 use Rattle.judge.specs.Day.{RunningUnit, DayView}
 use Rattle.judge.specs.Decision.{unitRow, chosenOr, choiceOf, decidedRow}
 use Rattle.judge.specs.Right.{RightRow}
@@ -53,15 +54,15 @@ module _
         let supplier : r .supplier ≡ w .supplier = omega (arith, t .supplier w i) in
         rw (chosen, ← verdict, ← left, ← supplier, ← (t .schedule .kind-shown))
 
-module _ (d : DayView) (c s h : List ℕ) (e : decisionRefusal d c s h ≡ none) where
+module _ (d : DayView) (f : Files) (e : decisionRefusal d f ≡ none) where
   pub row-right :
-      (u : ℕ) → Among u (units (supplyOf s)) →
-      RightRow (constraintOf c) (supplyOf s) (schedulesOf h) (d .running)
-      (decidedRow (constraintOf c) (supplyOf s) (schedulesOf h) (d .running) u)
-  row-right = right (constraintOf c) (supplyOf s) (schedulesOf h) (d .running) (sound d c s h e)
+      (u : ℕ) → Among u (units (supplyOf (f .supply))) →
+      RightRow (constraintOf (f .constraint)) (supplyOf (f .supply)) (schedulesOf (f .schedules)) (d .running)
+      (decidedRow (constraintOf (f .constraint)) (supplyOf (f .supply)) (schedulesOf (f .schedules)) (d .running) u)
+  row-right = right (constraintOf (f .constraint)) (supplyOf (f .supply)) (schedulesOf (f .schedules)) (d .running) (sound d f e)
 
   pub row-decided :
-      (r : AnswerRow) → Among (r .unit) (units (supplyOf s)) →
-      RightRow (constraintOf c) (supplyOf s) (schedulesOf h) (d .running) r →
-      r ≡ decidedRow (constraintOf c) (supplyOf s) (schedulesOf h) (d .running) (r .unit)
-  row-decided = only (constraintOf c) (supplyOf s) (schedulesOf h) (d .running) (sound d c s h e)
+      (r : AnswerRow) → Among (r .unit) (units (supplyOf (f .supply))) →
+      RightRow (constraintOf (f .constraint)) (supplyOf (f .supply)) (schedulesOf (f .schedules)) (d .running) r →
+      r ≡ decidedRow (constraintOf (f .constraint)) (supplyOf (f .supply)) (schedulesOf (f .schedules)) (d .running) (r .unit)
+  row-decided = only (constraintOf (f .constraint)) (supplyOf (f .supply)) (schedulesOf (f .schedules)) (d .running) (sound d f e)

@@ -6,9 +6,10 @@ use mathlib.Core.List.{List, [], _∷_, map, List·Memᴰ as Among, List·Memᴰ
 use Rattle.base.specs.Rising.{RisingFrom}
 use Rattle.base.specs.Search.{All, all-none, all-more}
 use Rattle.base.proofs.Elements.{all-mem}
-use Rattle.tables.specs.Rows.{ConstraintRow, SupplyRow, ScheduleRow}
+use Rattle.tables.specs.Rows.{SupplyRow, ScheduleRow}
+use Rattle.tables.specs.declared.constraint.ConstraintRow.{ConstraintRow}
 use Rattle.supply.specs.Supply.{units}
-use Rattle.judge.specs.Answer.{AnswerRow}
+use Rattle.cells.specs.Views.{AnswerRow}
 use Rattle.judge.specs.Day.{RunningUnit}
 use Rattle.judge.specs.Decision.{unitRow, decidedRow, decided}
 use Rattle.judge.specs.Right.{RightRow, RowPerUnit, RowOf}

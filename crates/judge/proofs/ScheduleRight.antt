@@ -7,7 +7,8 @@ use mathlib.Core.Bool.{true}
 use mathlib.Core.List.{List, List·Memᴰ as Among}
 use mathlib.Core.Option.{Option}
 use borrow.Author.Tests.{not-false}
-use Rattle.tables.specs.Rows.{ConstraintRow, SupplyRow, ScheduleRow}
+use Rattle.tables.specs.Rows.{SupplyRow, ScheduleRow}
+use Rattle.tables.specs.declared.constraint.ConstraintRow.{ConstraintRow}
 use Rattle.tables.specs.declared.files.Kind.{Kind}
 use Rattle.schedules.specs.Schedules.{own}
 use Rattle.supply.specs.Supply.{units}
@@ -19,7 +20,8 @@ use Rattle.choice.specs.declared.choosing.Chosen.the-variants.{Schedule}
 use Rattle.choice.specs.declared.kinds.Kinds.the-variants.{OnlyC}
 use Rattle.choice.proofs.ChoiceRight.{choice-right, choice-exists}
 use Rattle.choice.proofs.SomeEligible.{some-eligible}
-use Rattle.judge.specs.Answer.{AnswerRow, verdictLetter}
+use Rattle.cells.specs.Views.{AnswerRow}
+use Rattle.judge.specs.Answer.{verdictLetter}
 use Rattle.judge.specs.Day.{RunningUnit, kindRunning}
 use Rattle.judge.specs.Decision.{unitRow, verdictOf, exposedUnit, chosenOr, choiceOf, decidedRow, lacksCost, costless}
 use Rattle.judge.specs.Right.{RightSchedule}

@@ -1,25 +1,27 @@
 -- What is known of the rows of a study that isn't refused, as far as demand 3 on one row goes by it. Assumes nothing.
-use Prim.Native.Nat.{ℕ, _<_}
+use Prim.Native.Nat.{_<_}
 use mathlib.Core.Path.{_≡_}
 use mathlib.Core.List.{List}
 use mathlib.Core.Option.{none}
 use native.Mathlib.Omega.{arith}
-use Rattle.base.specs.Search.{All}
+use Rattle.base.specs.Search.{firstOf, All}
 use Rattle.base.proofs.Searches.{first-of-none, option-map-none}
 use Rattle.tables.specs.Ranges.{PermittedConstraint, PermittedSchedule}
 use Rattle.tables.specs.Reading.{refused}
-use Rattle.tables.specs.Rows.{ConstraintRow, SupplyRow, ScheduleRow}
+use Rattle.tables.specs.Rows.{SupplyRow, ScheduleRow}
+use Rattle.tables.specs.declared.constraint.ConstraintRow.{ConstraintRow}
 use Rattle.tables.specs.declared.files.File.the-variants.{Schedules}
-use Rattle.filing.specs.Filing.{constraintOf, supplyOf, schedulesOf, filingRefusal}
+use Rattle.filing.specs.Filing.{Files, constraintOf, supplyOf, schedulesOf, filingRefusals, filingRefusal}
 use Rattle.filing.specs.Kept.{Kept}
 use Rattle.schedules.specs.Schedules.{schedulesAtOdds, unscheduled}
 use Rattle.runs.specs.Runs.{lacking}
 use Rattle.supply.specs.Supply.{units, supplyAtOdds}
+use Rattle.base.proofs.FirstLaws.{first-of-parts-none}
 use Rattle.filing.proofs.KeptLaws.{kept}
 use Rattle.market.specs.Clearing.{needOf}
 use Rattle.judge.specs.Day.{RunningUnit, DayView, dayFormed, unless}
 use Rattle.judge.specs.Decision.{need, costless}
-use Rattle.judge.specs.Study.{decisionRefusal, rowsRefusals}
+use Rattle.judge.specs.Study.{decisionRefusals, decisionRefusal, rowsRefusals}
 
 pub record Sound
     (c : ConstraintRow) (supply : List SupplyRow) (scheduled : List ScheduleRow) (running : List RunningUnit)
@@ -38,25 +40,26 @@ pub some-need :
 unfolding needOf
 some-need s = omega (arith, s .constraint .some-relief)
 
-module _ (d : DayView) (c s h : List ℕ) (e : decisionRefusal d c s h ≡ none) where
+module _ (d : DayView) (f : Files) (e : decisionRefusal d f ≡ none) where
+  -- filing refuses nothing, and 20, 21 and 22 are kept
+  none-refused :
+      (filingRefusal f ≡ none)
+      × (firstOf (rowsRefusals d (constraintOf (f .constraint)) (supplyOf (f .supply)) (schedulesOf (f .schedules))) ≡ none)
+  unfolding decisionRefusal decisionRefusals filingRefusal
+  none-refused = first-of-parts-none (filingRefusals f) _ (first-of-none (unless (dayFormed d) 24) _ e .1)
+
   -- the files are such as filing accepts
-  pub files-kept : Kept c s h
-  unfolding decisionRefusal rowsRefusals
-  files-kept =
-      let formed = first-of-none (unless (dayFormed d) 24) _ e in
-      kept c s h (first-of-none (filingRefusal c s h) _ (formed .1) .0)
+  pub files-kept : Kept f
+  files-kept = kept f (none-refused .0)
 
-  -- 21 is kept
-  cost-kept : costless (constraintOf c .hour) (supplyOf s) (schedulesOf h) (d .running) ≡ none
-  unfolding decisionRefusal rowsRefusals
+  cost-kept : costless (constraintOf (f .constraint) .hour) (supplyOf (f .supply)) (schedulesOf (f .schedules)) (d .running) ≡ none
+  unfolding rowsRefusals
   cost-kept =
-      let formed = first-of-none (unless (dayFormed d) 24) _ e in
-      let filed = first-of-none (filingRefusal c s h) _ (formed .1) in
-      let later = first-of-none _ _ (filed .1) in
-      option-map-none (refused 21 Schedules) (costless (constraintOf c .hour) (supplyOf s) (schedulesOf h) (d .running))
-      (first-of-none _ _ (later .1) .0)
+      option-map-none (refused 21 Schedules)
+      (costless (constraintOf (f .constraint) .hour) (supplyOf (f .supply)) (schedulesOf (f .schedules)) (d .running))
+      (first-of-none _ _ (first-of-none _ _ (none-refused .1) .1) .0)
 
-  pub sound : Sound (constraintOf c) (supplyOf s) (schedulesOf h) (d .running)
+  pub sound : Sound (constraintOf (f .constraint)) (supplyOf (f .supply)) (schedulesOf (f .schedules)) (d .running)
   sound =
       record {
         constraint = files-kept .constraint-permitted;

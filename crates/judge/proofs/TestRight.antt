@@ -12,8 +12,10 @@ use lib.ListN.{length, getD}
 use borrow.Author.Tests.{ltb-true, ltb-false, le-ltb, eqb-true, eq-eqb}
 use Rattle.base.proofs.Members.{Finds, it, nothing, finds, member-at}
 use Rattle.base.proofs.Tests.{false-true}
-use Rattle.tables.specs.Rows.{ConstraintRow, SupplyRow}
+use Rattle.tables.specs.Rows.{SupplyRow}
+use Rattle.tables.specs.declared.constraint.ConstraintRow.{ConstraintRow}
 use Rattle.market.specs.Clearing.{eligibleSupply, short}
+use Rattle.numbers.specs.Numbers.{placeOf}
 use Rattle.market.specs.Parties.{parties}
 use Rattle.market.specs.Removals.{PartyOf, Removes, remaining}
 use Rattle.market.proofs.ClearingLaws.{clearing-clears}
@@ -21,7 +23,7 @@ use Rattle.market.proofs.LeastOverRows.{party-place, least-over-rows, attained-
 use Rattle.pivotal.specs.Test.{pivotal}
 use Rattle.choice.specs.Exposure.{Verdict, U, P, F}
 use Rattle.judge.specs.Answer.{verdictLetter}
-use Rattle.judge.specs.Decision.{placeOf, need, untested, cleared, leftOf, verdictOf, leftShown}
+use Rattle.judge.specs.Decision.{need, untested, cleared, leftOf, verdictOf, leftShown}
 use Rattle.judge.specs.Right.{Clearing, Removal, RightTest}
 use Rattle.judge.proofs.OneMarket.{remaining-same}
 

@@ -7,7 +7,8 @@ use mathlib.Core.Option.{none}
 use lib.Dec.{eqb}
 use borrow.Author.Tests.{eq-eqb, eqb-true, not-false}
 use Rattle.base.proofs.Tests.{and-fst, and-snd}
-use Rattle.tables.specs.Rows.{ConstraintRow, SupplyRow}
+use Rattle.tables.specs.Rows.{SupplyRow}
+use Rattle.tables.specs.declared.constraint.ConstraintRow.{ConstraintRow}
 use Rattle.supply.specs.Supply.{units, supplyOdds, supplyAtOdds}
 use Rattle.supply.proofs.UnitLaws.{among-units}
 use Rattle.offers.specs.Supply.{noRow}

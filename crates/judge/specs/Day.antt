@@ -9,6 +9,7 @@ use mathlib.Core.Option.{Option, none, some}
 use lib.Dec.{leb, ltb, eqb}
 use lib.ListN.{length}
 use Rattle.base.specs.Search.{any, those, firstOf}
+use Rattle.tables.specs.Ranges.{inColumn}
 use Rattle.tables.specs.Table.{Column, columnAt, firstColumn}
 use Rattle.tables.specs.declared.files.File.the-variants.{Constraint, Schedules}
 use Rattle.tables.specs.declared.files.Kind.{Kind}
@@ -36,9 +37,6 @@ unitColumn = columnAt (firstColumn Schedules)
 
 abbrev pub scheduleColumn : Column
 scheduleColumn = columnAt (1 + firstColumn Schedules)
-
-unfoldable pub inColumn : Column → ℕ → Bool
-inColumn c x = leb (c .minimum) x && leb x (c .maximum)
 
 unfoldable pub hourInRange : Option ℕ → Bool
 hourInRange none = true

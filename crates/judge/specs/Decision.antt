@@ -5,16 +5,17 @@ use mathlib.Core.Bool.{Bool, cond, _&&_, not}
 use mathlib.Core.List.{List, map}
 use mathlib.Core.Option.{Option, Option·getD}
 use lib.Dec.{eqb}
-use Rattle.base.specs.Search.{any, find, first}
-use Rattle.tables.specs.Rows.{ConstraintRow, SupplyRow, ScheduleRow, letterOf}
+use Rattle.base.specs.Search.{any, find}
+use Rattle.numbers.specs.Numbers.{placeOf}
+use Rattle.tables.specs.Rows.{SupplyRow, ScheduleRow, letterOf}
+use Rattle.tables.specs.declared.constraint.ConstraintRow.{ConstraintRow}
 use Rattle.tables.specs.declared.files.Kind.the-variants.{C}
 use Rattle.supply.specs.Supply.{units}
 use Rattle.schedules.specs.Schedules.{own}
 use Rattle.market.specs.Clearing.{needOf, short, clearingRow}
-use Rattle.offers.specs.Supply.{noRow}
+use Rattle.offers.specs.Supply.{noRow, eligible}
 use Rattle.market.specs.Parties.{party, parties, amounts}
 use Rattle.offers.specs.Relevant.{relevant}
-use Rattle.offers.specs.Supply.{eligible}
 use Rattle.pivotal.specs.Test.{left, pivotal}
 use Rattle.choice.specs.Choosing.{choice}
 use Rattle.choice.specs.Exposure.{Verdict, U, P, F, exposed}
@@ -23,7 +24,8 @@ use Rattle.choice.specs.declared.choosing.Choice.{Choice}
 use Rattle.choice.specs.declared.choosing.Chosen.{Chosen}
 use Rattle.choice.specs.declared.choosing.Chosen.the-variants.{Schedule, Nothing}
 use Rattle.choice.specs.declared.kinds.Kinds.the-variants.{OnlyC}
-use Rattle.judge.specs.Answer.{AnswerRow, verdictLetter}
+use Rattle.cells.specs.Views.{AnswerRow}
+use Rattle.judge.specs.Answer.{verdictLetter}
 use Rattle.judge.specs.Day.{RunningUnit, kindRunning}
 
 unfoldable pub ofUnit : ℕ → SupplyRow → Bool
@@ -32,10 +34,6 @@ ofUnit u r = eqb (r .unit) u
 -- a row of the unit: its rows share supplier and dfax
 unfoldable pub unitRow : List SupplyRow → ℕ → SupplyRow
 unitRow supply u = Option·getD (find (ofUnit u) supply) noRow
-
--- the place of a number in a list
-unfoldable pub placeOf : ℕ → List ℕ → ℕ
-placeOf k ks = Option·getD (first (λ (j : ℕ). eqb j k) 0 ks) 0
 
 abbrev pub need : ConstraintRow → ℕ
 need c = needOf (c .relief)
@@ -110,5 +108,5 @@ costless h supply scheduled running = find (lacksCost h scheduled running) (unit
 
 -- opens all of the above, for examples that compute
 unfoldable pub decision·all : Unit {0}
-unfolding ofUnit unitRow placeOf untested cleared leftOf verdictOf leftShown hasRelevant hasEligible exposedUnit choiceOf decidedRow decided lacksCost costless
+unfolding ofUnit unitRow untested cleared leftOf verdictOf leftShown hasRelevant hasEligible exposedUnit choiceOf decidedRow decided lacksCost costless
 decision·all = tt

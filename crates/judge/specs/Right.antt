@@ -9,9 +9,10 @@ use mathlib.Core.List.{List, [], _∷_, _++_, map, List·Memᴰ as Among}
 use Rattle.base.specs.Rising.{RisingFrom}
 use Rattle.base.specs.Search.{All}
 use Rattle.numeral.specs.Numeral.{Numeral}
-use Rattle.tables.specs.Rows.{ConstraintRow, SupplyRow, ScheduleRow, letterOf}
+use Rattle.tables.specs.Rows.{SupplyRow, ScheduleRow, letterOf}
+use Rattle.tables.specs.declared.constraint.ConstraintRow.{ConstraintRow}
 use Rattle.tables.specs.declared.files.Kind.{Kind}
-use Rattle.filing.specs.Filing.{constraintOf, supplyOf, schedulesOf}
+use Rattle.filing.specs.Filing.{Files, constraintOf, supplyOf, schedulesOf}
 use Rattle.schedules.specs.Schedules.{own}
 use Rattle.market.specs.Clearing.{Clears, needOf, eligibleSupply}
 use Rattle.market.specs.Parties.{party}
@@ -20,7 +21,8 @@ use Rattle.market.specs.Removals.{Removes, remaining}
 use Rattle.offers.specs.Supply.{eligible}
 use Rattle.choice.specs.Exposure.{U, P, F}
 use Rattle.choice.specs.Right.{RightChoice}
-use Rattle.judge.specs.Answer.{AnswerRow, verdictLetter, answerHeader, COMMA, CRLF}
+use Rattle.cells.specs.Views.{AnswerRow}
+use Rattle.judge.specs.Answer.{verdictLetter, answerHeader, COMMA, CRLF}
 use Rattle.judge.specs.Day.{RunningUnit, DayView, kindRunning}
 
 -- a row's record, in numerals as the files have them
@@ -132,8 +134,9 @@ module _ (c : ConstraintRow) (supply : List SupplyRow) where
     pub every-unit : (w : SupplyRow) → Among w supply → (r : AnswerRow) × Among r rs × (r .unit ≡ w .unit)
 
 -- demand 3
-pub record Right (d : DayView) (c s h : List ℕ) (text : List ℕ) : Type 0 where
+pub record Right (d : DayView) (f : Files) (text : List ℕ) : Type 0 where
   pub rows : List AnswerRow
   pub in-layout : InLayout rows text
-  pub per-unit : RowPerUnit (constraintOf c) (supplyOf s) rows
-  pub every-row : All (RightRow (constraintOf c) (supplyOf s) (schedulesOf h) (d .running)) rows
+  pub per-unit : RowPerUnit (constraintOf (f .constraint)) (supplyOf (f .supply)) rows
+  pub every-row :
+      All (RightRow (constraintOf (f .constraint)) (supplyOf (f .supply)) (schedulesOf (f .schedules)) (d .running)) rows

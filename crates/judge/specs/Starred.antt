@@ -5,7 +5,7 @@ use mathlib.Core.Path.{_≡_, refl}
 use mathlib.Core.Bool.{true, false}
 use mathlib.Core.List.{List, [], _∷_, map}
 use mathlib.Core.Option.{none}
-use Rattle.base.specs.Rising.{rising·all}
+use Rattle.base.specs.Rising.{rising·all, among}
 use Rattle.base.specs.Search.{those}
 use Rattle.base.specs.Text.{bytes}
 use Rattle.choice.specs.Choosing.{shown, better, kept, keptAll, candidates, choice}
@@ -19,23 +19,22 @@ use Rattle.choice.specs.Schedules.{
   eligibleKinds,
   eligible as eligibleSchedule,
 }
-use Rattle.filing.specs.Filing.{filing·all}
+use Rattle.filing.specs.Filing.{files, filing·all}
 use Rattle.runs.specs.Runs.{runs·all}
 use Rattle.schedules.specs.Schedules.{schedules·all}
+use Rattle.numbers.specs.Numbers.{numbers·all}
 use Rattle.supply.specs.Supply.{supply·all}
 use Rattle.judge.specs.Answer.{answer·all}
 use Rattle.judge.specs.Day.{freshDay, day·all}
 use Rattle.judge.specs.Decision.{decision·all}
 use Rattle.judge.specs.Study.{decisionRefusal, answerFile, study·all}
 use Rattle.market.specs.Clearing.{eligibleSupply, needOf, short, eligibleUpTo, eligibleBelow, clears, clearing, clearingRow}
-use Rattle.offers.specs.Supply.{rowAt}
+use Rattle.offers.specs.Supply.{rowAt, absDfax, eligible, supply, supplyOf, offer, costBeside, atMost, below}
 use Rattle.offers.specs.Offer.{capped}
-use Rattle.market.specs.Parties.{party, met, metAll, parties, relevantOf, amountOf, amounts}
+use Rattle.market.specs.Parties.{party, parties, relevantOf, amountOf, amounts}
 use Rattle.offers.specs.Relevant.{relevant}
-use Rattle.offers.specs.Supply.{absDfax, eligible, supply, supplyOf, offer, costBeside, atMost, below}
-use Rattle.base.specs.Rising.{among}
 use Rattle.tables.proofs.Starred.{constraintFile, supplyFile, schedulesFile, starred·all}
-use Rattle.tables.specs.Hours.{inRun}
+use Rattle.hours.specs.Hours.{inRun}
 use Rattle.pivotal.specs.Test.{total, begun, fed, fedAll, left, pivotal, verdictOf, tooLarge, refused, tested}
 use Rattle.pivotal.specs.declared.Answer.the-variants.{Tested}
 use Rattle.pivotal.specs.declared.Verdict.the-variants.{P, F}
@@ -92,7 +91,7 @@ above-150 = refl
 
 -- opens every definition of a study
 unfoldable market·all : Unit {0}
-unfolding relevant·all supply supplyOf atMost below eligibleSupply needOf short eligibleUpTo eligibleBelow clears clearing rowAt clearingRow among party met metAll parties relevantOf amountOf amounts
+unfolding relevant·all supply supplyOf atMost below eligibleSupply needOf short eligibleUpTo eligibleBelow clears clearing rowAt clearingRow among party parties relevantOf amountOf amounts
 market·all = tt
 
 unfoldable choice·all : Unit {0}
@@ -100,7 +99,7 @@ unfolding inRun offerPrice price hourCost runningCost inItsRun share runCost sta
 choice·all = tt
 
 unfoldable engine·all : Unit {0}
-unfolding starred·all rising·all supply·all schedules·all runs·all filing·all market·all test·all choice·all day·all answer·all decision·all study·all
+unfolding starred·all rising·all numbers·all supply·all schedules·all runs·all filing·all market·all test·all choice·all day·all answer·all decision·all study·all
 engine·all = tt
 
 -- "Example ★: .. prints"
@@ -109,10 +108,10 @@ answerExample =
     bytes
     "unit,supplier,verdict,left,schedule,kind,cost\r\n11,1,F,0,2,C,1030000\r\n12,2,F,0,1,M,330000\r\n13,3,F,0,1,C,890000\r\n14,4,F,5000000,1,M,500000\r\n"
 
-not-refused : decisionRefusal freshDay constraintFile supplyFile schedulesFile ≡ none
+not-refused : decisionRefusal freshDay (files constraintFile supplyFile schedulesFile) ≡ none
 unfolding engine·all
 not-refused = refl
 
-whole-example : answerFile freshDay constraintFile supplyFile schedulesFile ≡ answerExample
+whole-example : answerFile freshDay (files constraintFile supplyFile schedulesFile) ≡ answerExample
 unfolding engine·all
 whole-example = refl

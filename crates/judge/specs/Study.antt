@@ -9,12 +9,14 @@ use lib.Dec.{leb}
 use lib.ListN.{length, drop}
 use Rattle.base.specs.Search.{firstOf}
 use Rattle.tables.specs.Reading.{refused}
-use Rattle.tables.specs.Rows.{ConstraintRow, SupplyRow, ScheduleRow, kindOf}
+use Rattle.tables.specs.Rows.{SupplyRow, ScheduleRow, kindOf}
+use Rattle.tables.specs.declared.constraint.ConstraintRow.{ConstraintRow}
 use Rattle.tables.specs.declared.files.File.the-variants.{Schedules}
 use Rattle.tables.specs.declared.files.Refusal.{Refusal}
-use Rattle.filing.specs.Filing.{constraintOf, supplyOf, schedulesOf, filingRefusal}
+use Rattle.filing.specs.Filing.{Files, constraintOf, supplyOf, schedulesOf, filingRefusals}
 use Rattle.supply.specs.Supply.{units}
-use Rattle.judge.specs.Answer.{AnswerRow, answerText}
+use Rattle.cells.specs.Views.{AnswerRow}
+use Rattle.judge.specs.Answer.{answerText}
 use Rattle.judge.specs.Day.{RunningUnit, DayView, mostRunning, dayFormed, unless, earlier, wouldRun, committed}
 use Rattle.judge.specs.Decision.{decided, costless}
 
@@ -54,28 +56,35 @@ rowsRefusals d c supply scheduled =
     ∷ crowding d (units supply)
     ∷ []
 
-module _ (d : DayView) (c s h : List ℕ) where
+module _ (d : DayView) (f : Files) where
   -- the rows of the answer
   unfoldable pub studyRows : List AnswerRow
-  studyRows = decided (constraintOf c) (supplyOf s) (schedulesOf h) (d .running)
+  studyRows = decided (constraintOf (f .constraint)) (supplyOf (f .supply)) (schedulesOf (f .schedules)) (d .running)
 
   -- the answer file
   unfoldable pub answerFile : List ℕ
   answerFile = answerText studyRows
 
-  -- the first refusal but for 10, which alone goes by the buffer
+  -- every refusal but 10, which alone goes by the buffer
+  unfoldable pub decisionRefusals : List (Option Refusal)
+  decisionRefusals =
+      unless (dayFormed d) 24
+      ∷ filingRefusals f
+      ++ rowsRefusals d (constraintOf (f .constraint)) (supplyOf (f .supply)) (schedulesOf (f .schedules))
+
+  unfoldable pub studyRefusals : ℕ → List (Option Refusal)
+  studyRefusals room = decisionRefusals ++ (cramped studyRows room ∷ [])
+
   unfoldable pub decisionRefusal : Option Refusal
-  decisionRefusal =
-      firstOf
-      (unless (dayFormed d) 24 ∷ filingRefusal c s h ∷ rowsRefusals d (constraintOf c) (supplyOf s) (schedulesOf h))
+  decisionRefusal = firstOf decisionRefusals
 
   unfoldable pub studyRefusal : ℕ → Option Refusal
-  studyRefusal room = firstOf (decisionRefusal ∷ cramped studyRows room ∷ [])
+  studyRefusal room = firstOf (studyRefusals room)
 
   unfoldable pub studied : List ℕ → Outcome
-  studied buffer = outcome d (constraintOf c .hour) studyRows buffer (studyRefusal (length buffer))
+  studied buffer = outcome d (constraintOf (f .constraint) .hour) studyRows buffer (studyRefusal (length buffer))
 
 -- opens all of the above, for examples that compute
 unfoldable pub study·all : Unit {0}
-unfolding chosen written outcome crowding cramped rowsRefusals studyRows answerFile decisionRefusal studyRefusal studied
+unfolding chosen written outcome crowding cramped rowsRefusals studyRows answerFile decisionRefusals studyRefusals decisionRefusal studyRefusal studied
 study·all = tt

@@ -1,17 +1,18 @@
 -- Laws of linked rows: how they come to be linked, and the search along links. Assumes nothing.
-use Prim.Native.Nat.{ℕ, zero, suc, _+_, _-_, _≤_, _<_}
+use Prim.Native.Nat.{ℕ, zero, suc, _+_, _-_, _*_, _≤_, _<_, min}
 use mathlib.Core.Path.{_≡_, refl, sym, _∙_, ap}
 use mathlib.Core.Logic.{⊎-elim}
 use mathlib.Core.Bool.{Bool, true, false, cond, _||_}
-use mathlib.Core.List.{List}
+use mathlib.Core.List.{List, _++_, append-nil}
 use native.Mathlib.Omega.{arith}
 use native.Mathlib.Numerals.{add-one}
 use lib.Dec.{eqb}
-use lib.ListN.{length, getD, set, replicate, length-set}
-use lib.Seq.{getD-set-same, getD-set-other, lt-length-set}
+use lib.ListN.{length, getD, set, replicate, take, drop, length-set, length-append, length-take, length-drop}
+use lib.Seq.{getD-set-same, getD-set-other, lt-length-set, take-at, drop-at, length-take-le, getD-take, getD-drop}
 use borrow.Author.Tests.{eq-eqb, ne-eqb, eqb-true}
+use Rattle.base.proofs.Lists.{rest-lent, rest-back}
 use Rattle.base.proofs.Tests.{either, eq-or-ne}
-use Rattle.links.specs.Links.{lastSame, mostLinked, Unlinked, rowLinked, Linked, LinkedTo, anyBefore, Leads, Along}
+use Rattle.links.specs.Links.{lastSame, mostLinked, Unlinked, rowLinked, Linked, LinkedTo, anyBefore, Leads, Along, unitKeys, scheduleKeys, byUnit, bySchedule, unitKey, scheduleKey, unitLinks, linksLength, RowsLinked}
 
 -- a run of zeros has no row
 pub unlinked : (n i : ℕ) → getD {A = ℕ} (replicate n 0) i 0 ≡ 0
@@ -19,14 +20,35 @@ unlinked zero i = refl
 unlinked (suc n) zero = refl
 unlinked (suc n) (suc i) = unlinked n i
 
+-- a row comes in either part of a run, of which each is lent
+row-length : (links : List ℕ) (x k : ℕ) → length (rowLinked links x k) ≡ length links
+row-length links x k = simp length-set
+
+pub parts-linked :
+    (a : ℕ) (links by-first by-second : List ℕ) (x y k : ℕ) → a ≤ length links → by-first ≡ rowLinked (take a links) x k →
+    by-second ≡ rowLinked (take (length (by-first ++ drop a links) - a) (drop a (by-first ++ drop a links))) y k →
+    take a (by-first ++ drop a links)
+    ++ (by-second ++ drop (length (by-first ++ drop a links) - a) (drop a (by-first ++ drop a links)))
+    ≡ rowLinked (take a links) x k ++ rowLinked (drop a links) y k
+parts-linked a links by-first by-second x y k room first second =
+    let long : length by-first ≡ a = rw first (row-length (take a links) x k ∙ length-take-le a links room) in
+    rw (
+      take-at by-first (drop a links) a long,
+      rest-back a (by-first ++ drop a links),
+      append-nil by-second,
+      second,
+      rest-lent a (by-first ++ drop a links),
+      drop-at by-first (drop a links) a long,
+      first,
+    )
+
 -- of n rows k are linked
-pub record Linking (key : ℕ → ℕ) (keys n : ℕ) (old new : List ℕ) (k : ℕ) : Type 0 where
-  pub upto : k ≤ n
-  pub few : n ≤ mostLinked
-  pub room : mostLinked + keys ≤ length new
-  pub same-length : length new ≡ length old
-  pub by-row : (i : ℕ) → i < k → getD new i 0 ≡ lastSame key (key i) i
-  pub by-key : (x : ℕ) → x < keys → getD new (mostLinked + x) 0 ≡ lastSame key x k
+pub record Linking (key : ℕ → ℕ) (keys n : ℕ) (links : List ℕ) (k : ℕ) : Type 0 where
+  upto : k ≤ n
+  few : n ≤ mostLinked
+  room : mostLinked + keys ≤ length links
+  by-row : (i : ℕ) → i < k → getD links i 0 ≡ lastSame key (key i) i
+  by-key : (x : ℕ) → x < keys → getD links (mostLinked + x) 0 ≡ lastSame key x k
 
 module _ (key : ℕ → ℕ) where
   pub last-here : (x k : ℕ) → key k ≡ x → lastSame key x (suc k) ≡ suc k
@@ -37,20 +59,21 @@ module _ (key : ℕ → ℕ) where
   unfolding lastSame
   last-later x k e = rw (ne-eqb (key k) x e)
 
-  module _ (keys n : ℕ) (old : List ℕ) where
-    pub linking-none : n ≤ mostLinked → mostLinked + keys ≤ length old → Unlinked old → Linking key keys n old old 0
+  module _ (keys n : ℕ) where
+    linking-none :
+        (links : List ℕ) → n ≤ mostLinked → mostLinked + keys ≤ length links →
+        ((x : ℕ) → x < keys → getD links (mostLinked + x) 0 ≡ 0) → Linking key keys n links 0
     unfolding lastSame
-    linking-none few room none =
+    linking-none links few room none =
         record {
           upto = omega arith;
           few = few;
           room = room;
-          same-length = refl;
           by-row = λ (i : ℕ) (h : i < 0). absurd (omega arith);
-          by-key = λ (x : ℕ) (h : x < keys). none (mostLinked + x);
+          by-key = none;
         }
 
-    module _ (now : List ℕ) (k x : ℕ) (l : Linking key keys n old now k) (h : k < n) (is : x ≡ key k) (one : x < keys) where
+    module _ (now : List ℕ) (k x : ℕ) (l : Linking key keys n now k) (h : k < n) (is : x ≡ key k) (one : x < keys) where
       abbrev head : ℕ
       head = getD now (mostLinked + x) 0
 
@@ -88,22 +111,18 @@ module _ (key : ℕ → ℕ) where
               getD-set-other stored (mostLinked + x) (mostLinked + y) (k + 1) 0 (λ (s : mostLinked + y ≡ mostLinked + x). e (omega arith))
               ∙ key-kept y ∙ l .by-key y f ∙ sym (last-later y k (λ (s : key k ≡ y). e (sym s ∙ sym is)))
 
-      same : length (rowLinked now x k) ≡ length now
-      same = length-set stored (mostLinked + x) (k + 1) ∙ length-set now k head
-
-      pub linking-next : (next : List ℕ) → next ≡ rowLinked now x k → Linking key keys n old next (k + 1)
+      linking-next : (next : List ℕ) → next ≡ rowLinked now x k → Linking key keys n next (k + 1)
       linking-next next e =
           rw e
           record {
             upto = omega arith;
             few = l .few;
-            room = rw same (l .room);
-            same-length = same ∙ l .same-length;
+            room = rw (row-length now x k) (l .room);
             by-row = rows-next;
             by-key = keys-next;
           }
 
-    pub linking-over : (now : List ℕ) (k : ℕ) → Linking key keys n old now k → n ≤ k → Linked key keys n now
+    linking-over : (now : List ℕ) (k : ℕ) → Linking key keys n now k → n ≤ k → Linked key keys n now
     linking-over now k l h =
         let all : k ≡ n = omega (arith, l .upto) in
         record { few = l .few; room = l .room; by-row = rw all at (l .by-row); by-key = rw all at (l .by-key) }
@@ -143,18 +162,28 @@ module _ (key : ℕ → ℕ) where
       }
 
   module _ (x : ℕ) (links : List ℕ) (left : ℕ) (l : Leads key x links left) (h : 0 < left) where
-    pub leads-last : getD links (left - 1) 0 ≡ lastSame key x (left - 1)
+    leads-last : getD links (left - 1) 0 ≡ lastSame key x (left - 1)
     leads-last = l .linked (left - 1) (omega arith) ∙ rw (l .on (left - 1) (omega arith))
 
-    pub leads-less : getD links (left - 1) 0 < left
+    leads-less : getD links (left - 1) 0 < left
     leads-less = omega (arith, rw (← leads-last) at (last-upto x (left - 1)))
 
-    pub leads-next : Leads key x links (getD links (left - 1) 0)
+    leads-next : Leads key x links (getD links (left - 1) 0)
     leads-next =
         leads-from x (left - 1) links (getD links (left - 1) 0)
         (λ (j : ℕ) (i : j < left - 1). l .linked j (omega arith))
         (omega (arith, l .room))
         leads-last
+
+  -- what rows of other keys don't change is the same at the last row with the key
+  last-skips :
+      {T : Type 0} (g : ℕ → T) (x : ℕ) → ((k : ℕ) → (key k ≡ x → ⊥) → g (suc k) ≡ g k) → (k : ℕ) → g k ≡ g (lastSame key x k)
+  last-skips g x skips zero = unfold lastSame in refl
+  last-skips g x skips (suc k) =
+      ⊎-elim
+      (λ (e : key k ≡ x). rw (last-here x k e))
+      (λ (e : key k ≡ x → ⊥). rw (last-later x k e) (skips k e ∙ last-skips g x skips k))
+      (eq-or-ne (key k) x)
 
   -- behind it nothing passes a test that only rows with the key pass
   module _ (p : ℕ → Bool) (x : ℕ) (alike : (j : ℕ) → p j ≡ true → key j ≡ x) where
@@ -163,16 +192,7 @@ module _ (key : ℕ → ℕ) where
 
     pub last-any : (k : ℕ) → anyBefore p k ≡ anyBefore p (lastSame key x k)
     unfolding anyBefore
-    last-any zero = unfold lastSame in refl
-    last-any (suc k) = ⊎-elim here (later (last-any k)) (eq-or-ne (key k) x)
-      where
-        here : key k ≡ x → anyBefore p (suc k) ≡ anyBefore p (lastSame key x (suc k))
-        here e = rw (last-here x k e)
-
-        later :
-            anyBefore p k ≡ anyBefore p (lastSame key x k) → (key k ≡ x → ⊥) →
-            anyBefore p (suc k) ≡ anyBefore p (lastSame key x (suc k))
-        later below e = rw (last-later x k e, other-fails k e) below
+    last-any k = last-skips (anyBefore p) x (λ (j : ℕ) (e : key j ≡ x → ⊥). rw (other-fails j e)) k
 
     -- so a search begins at the last row with the key
     along-from :
@@ -187,6 +207,99 @@ module _ (key : ℕ → ℕ) where
           upto = rw is (last-upto x k);
           rest = last-any k ∙ rw (← is);
         }
+
+-- of n schedule rows k are linked, by unit and by unit and schedule
+pub record RowsLinking (cells : List ℕ) (n : ℕ) (old new : List ℕ) (k : ℕ) : Type 0 where
+  pub upto : k ≤ n
+  pub few : n ≤ mostLinked
+  pub room : linksLength ≤ length new
+  pub same-length : length new ≡ length old
+  pub by-unit : Linking (unitKey cells) unitKeys n (take unitLinks new) k
+  pub by-schedule : Linking (scheduleKey cells) scheduleKeys n (drop unitLinks new) k
+
+module _ (cells : List ℕ) (n : ℕ) (old : List ℕ) where
+  pub rows-linking-none : n ≤ mostLinked → linksLength ≤ length old → Unlinked old → RowsLinking cells n old old 0
+  rows-linking-none few room none =
+      record {
+        upto = omega arith;
+        few = few;
+        room = room;
+        same-length = refl;
+        by-unit =
+            linking-none (unitKey cells) unitKeys n (take unitLinks old) few (rw (length-take-le unitLinks old (omega arith)) (omega arith))
+            (λ (x : ℕ) (h : x < unitKeys). getD-take unitLinks old (mostLinked + x) 0 (omega arith) ∙ none (mostLinked + x));
+        by-schedule =
+            linking-none (scheduleKey cells) scheduleKeys n (drop unitLinks old) few (omega (arith, length-drop unitLinks old))
+            (λ (x : ℕ) (h : x < scheduleKeys). getD-drop unitLinks old (mostLinked + x) 0 ∙ none (unitLinks + (mostLinked + x)));
+      }
+
+  -- row k comes, of a unit and a schedule
+  module _ (now : List ℕ) (k unit schedule : ℕ) (l : RowsLinking cells n old now k) (h : k < n) where
+    abbrev of-unit : List ℕ
+    of-unit = rowLinked (take unitLinks now) (byUnit unit) k
+
+    abbrev of-schedule : List ℕ
+    of-schedule = rowLinked (drop unitLinks now) (bySchedule unit schedule) k
+
+    unit-length : length of-unit ≡ unitLinks
+    unit-length = row-length (take unitLinks now) (byUnit unit) k ∙ length-take-le unitLinks now (omega (arith, l .room))
+
+    schedule-length : length of-schedule ≡ length now - unitLinks
+    schedule-length = row-length (drop unitLinks now) (bySchedule unit schedule) k ∙ length-drop unitLinks now
+
+    pub rows-linking-next :
+        (next : List ℕ) → unit ≡ getD cells (k * 9 + 0) 0 → schedule ≡ getD cells (k * 9 + 1) 0 → next ≡ of-unit ++ of-schedule →
+        RowsLinking cells n old next (k + 1)
+    rows-linking-next next is-unit is-schedule e =
+        let same : length next ≡ length now = omega (arith, l .room, ap length e ∙ length-append of-unit of-schedule, unit-length, schedule-length) in
+        record {
+          upto = omega arith;
+          few = l .few;
+          room = rw same (l .room);
+          same-length = same ∙ l .same-length;
+          by-unit =
+              linking-next (unitKey cells) unitKeys n (take unitLinks now) k (byUnit unit) (l .by-unit) h
+              (rw is-unit)
+              (omega arith)
+              (take unitLinks next)
+              (rw e (take-at of-unit of-schedule unitLinks unit-length));
+          by-schedule =
+              linking-next (scheduleKey cells) scheduleKeys n (drop unitLinks now) k (bySchedule unit schedule) (l .by-schedule) h
+              (rw (is-unit, is-schedule))
+              (omega arith)
+              (drop unitLinks next)
+              (rw e (drop-at of-unit of-schedule unitLinks unit-length));
+        }
+
+  pub rows-linking-over : (now : List ℕ) (k : ℕ) → RowsLinking cells n old now k → n ≤ k → RowsLinked cells n now
+  rows-linking-over now k l h =
+      record {
+        by-unit = linking-over (unitKey cells) unitKeys n (take unitLinks now) k (l .by-unit) h;
+        by-schedule = linking-over (scheduleKey cells) scheduleKeys n (drop unitLinks now) k (l .by-schedule) h;
+      }
+
+-- the first part of a run has the links that the whole has
+part-linked : {key : ℕ → ℕ} {keys n : ℕ} (m : ℕ) (links : List ℕ) → Linked key keys n (take m links) → Linked key keys n links
+part-linked {key} {keys} {n} m links l =
+    let long : length (take m links) ≡ min m (length links) = length-take m links in
+    record {
+      few = l .few;
+      room = omega (arith, l .room);
+      by-row = λ (k : ℕ) (h : k < n). sym (getD-take m links k 0 (omega (arith, l .room, l .few))) ∙ l .by-row k h;
+      by-key = λ (x : ℕ) (h : x < keys). sym (getD-take m links (mostLinked + x) 0 (omega (arith, l .room))) ∙ l .by-key x h;
+    }
+
+-- the parts of a run of links, and the second as it is lent
+pub rows-length : {cells : List ℕ} {n : ℕ} {links : List ℕ} → RowsLinked cells n links → linksLength ≤ length links
+rows-length {links = links} l = omega (arith, l .by-schedule .room, length-drop unitLinks links)
+
+pub rows-by-schedule :
+    {cells : List ℕ} {n : ℕ} {links : List ℕ} → RowsLinked cells n links →
+    Linked (scheduleKey cells) scheduleKeys n (take (length links - unitLinks) (drop unitLinks links))
+rows-by-schedule {links = links} l = rw (rest-lent unitLinks links) (l .by-schedule)
+
+pub rows-by-unit : {cells : List ℕ} {n : ℕ} {links : List ℕ} → RowsLinked cells n links → Linked (unitKey cells) unitKeys n links
+rows-by-unit {links = links} l = part-linked unitLinks links (l .by-unit)
 
 -- it begins at the links of the row whose key is wanted
 pub along-row :
@@ -205,12 +318,12 @@ pub along-key :
 along-key {key} {keys} {n} {links} p x l h alike =
     along-from key p x alike n links (getD links (mostLinked + x) 0) (l .by-row) (omega (arith, l .few, l .room)) (l .by-key x h)
 
-pub leads-key :
+leads-key :
     {key : ℕ → ℕ} {keys n : ℕ} {links : List ℕ} (x : ℕ) → Linked key keys n links → x < keys → Leads key x links (getD links (mostLinked + x) 0)
 leads-key {key} {keys} {n} {links} x l h =
     leads-from key x n links (getD links (mostLinked + x) 0) (l .by-row) (omega (arith, l .few, l .room)) (l .by-key x h)
 
-pub key-upto : {key : ℕ → ℕ} {keys n : ℕ} {links : List ℕ} (x : ℕ) → Linked key keys n links → x < keys → getD links (mostLinked + x) 0 ≤ n
+key-upto : {key : ℕ → ℕ} {keys n : ℕ} {links : List ℕ} (x : ℕ) → Linked key keys n links → x < keys → getD links (mostLinked + x) 0 ≤ n
 key-upto {key} {keys} {n} x l h = rw (l .by-key x h) (last-upto key x n)
 
 -- of linked rows, those as far as one of them
@@ -258,3 +371,76 @@ module _ (p : ℕ → Bool) (k : ℕ) (links : List ℕ) (left : ℕ) (l : Along
   along-over h =
       let none-left : left ≡ 0 = omega arith in
       sym (l .rest ∙ rw none-left)
+
+-- a state that is changed at each of k places, from the last to the first
+unfoldable pub down : {S : Type 0} → (S → ℕ → S) → S → ℕ → S
+down step s zero = s
+down step s (suc k) = down step (step s k) k
+
+-- it goes along links, with `left` places left, where only those of one key change it
+pub record Walk {S : Type 0} (step : S → ℕ → S) (start : S) (k : ℕ) (links : List ℕ) (state : S) (left : ℕ) : Type 0 where
+  pub key : ℕ → ℕ
+  pub wanted : ℕ
+  pub idle : (s : S) (j : ℕ) → (key j ≡ wanted → ⊥) → step s j ≡ s
+  pub leads : Leads key wanted links left
+  pub upto : left ≤ k
+  pub rest : down step start k ≡ down step state left
+
+module _ {S : Type 0} (step : S → ℕ → S) where
+  last-down :
+      (key : ℕ → ℕ) (x : ℕ) → ((s : S) (j : ℕ) → (key j ≡ x → ⊥) → step s j ≡ s) → (s : S) (k : ℕ) →
+      down step s k ≡ down step s (lastSame key x k)
+  unfolding down
+  last-down key x idle s k = last-skips key (down step s) x (λ (j : ℕ) (e : key j ≡ x → ⊥). rw (idle s j e)) k
+
+  module _ (start : S) where
+    -- it begins at the last row with the key
+    pub walk-key :
+        {key : ℕ → ℕ} {keys n : ℕ} {links : List ℕ} (x : ℕ) → Linked key keys n links → x < keys →
+        ((s : S) (j : ℕ) → (key j ≡ x → ⊥) → step s j ≡ s) → Walk step start n links start (getD links (mostLinked + x) 0)
+    walk-key {key} {keys} {n} {links} x l h idle =
+        record {
+          key = key;
+          wanted = x;
+          idle = idle;
+          leads = leads-key x l h;
+          upto = key-upto x l h;
+          rest = last-down key x idle start n ∙ rw (← l .by-key x h);
+        }
+
+    -- one row of it
+    module _ (k : ℕ) (links : List ℕ) (state : S) (left : ℕ) (w : Walk step start k links state left) where
+      module _ (h : 0 < left) where
+        pub walk-step : down step start k ≡ down step (step state (left - 1)) (left - 1)
+        unfolding down
+        walk-step =
+            let one-less : left ≡ suc (left - 1) = omega arith in
+            w .rest ∙ ap (down step state) one-less
+
+        pub walk-less : getD links (left - 1) 0 < left
+        walk-less = leads-less (w .key) (w .wanted) links left (w .leads) h
+
+        pub walk-next : (next : S) → next ≡ step state (left - 1) → Walk step start k links next (getD links (left - 1) 0)
+        walk-next next e =
+            record {
+              key = w .key;
+              wanted = w .wanted;
+              idle = w .idle;
+              leads = leads-next (w .key) (w .wanted) links left (w .leads) h;
+              upto = omega (arith, walk-less, w .upto);
+              rest =
+                  walk-step
+                  ∙ rw (← e, last-down (w .key) (w .wanted) (w .idle) next (left - 1), leads-last (w .key) (w .wanted) links left (w .leads) h);
+            }
+
+      pub walk-over : left ≤ 0 → state ≡ down step start k
+      unfolding down
+      walk-over h =
+          let none-left : left ≡ 0 = omega arith in
+          sym (w .rest ∙ rw none-left)
+
+-- a sum so far is at most the whole
+pub down-more : (f : ℕ → ℕ) (sum k : ℕ) → sum ≤ down (λ (s : ℕ) (j : ℕ). s + f j) sum k
+unfolding down
+down-more f sum zero = omega arith
+down-more f sum (suc k) = omega (arith, down-more f (sum + f k) k)

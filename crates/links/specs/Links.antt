@@ -5,7 +5,7 @@ use mathlib.Core.Path.{_≡_}
 use mathlib.Core.Bool.{Bool, true, false, cond, _||_}
 use mathlib.Core.List.{List}
 use lib.Dec.{eqb}
-use lib.ListN.{length, getD, set}
+use lib.ListN.{length, getD, set, take, drop}
 
 -- one more than the place of the last of k rows that has the key x; 0 where none has
 unfoldable pub lastSame : (ℕ → ℕ) → ℕ → ℕ → ℕ
@@ -77,3 +77,15 @@ unitKey cells k = byUnit (getD cells (k * 9 + 0) 0)
 
 abbrev pub scheduleKey : List ℕ → ℕ → ℕ
 scheduleKey cells k = bySchedule (getD cells (k * 9 + 0) 0) (getD cells (k * 9 + 1) 0)
+
+-- the length of the links by unit, and of a whole run of links: those by unit, and behind them those by unit and schedule
+abbrev pub unitLinks : ℕ
+unitLinks = 2048
+
+abbrev pub linksLength : ℕ
+linksLength = 5111
+
+-- n schedule rows are linked by their unit, and by their unit and schedule
+pub record RowsLinked (cells : List ℕ) (n : ℕ) (links : List ℕ) : Type 0 where
+  pub by-unit : Linked (unitKey cells) unitKeys n (take unitLinks links)
+  pub by-schedule : Linked (scheduleKey cells) scheduleKeys n (drop unitLinks links)

@@ -13,9 +13,8 @@ use borrow.Author.Tests.{le-leb, leb-true, lt-ltb, le-ltb, ltb-true, ltb-false}
 use Rattle.base.proofs.Tests.{false-true, lt-or-ge, and-fst, and-snd}
 use Rattle.base.proofs.Members.{Lowest, lowest, Finds, it, nothing, finds, member-at}
 use Rattle.tables.specs.Rows.{SupplyRow}
-use Rattle.offers.specs.Supply.{absDfax, eligible, supply, supplyOf, atMost, below}
+use Rattle.offers.specs.Supply.{absDfax, eligible, supply, supplyOf, atMost, below, noRow, rowAt}
 use Rattle.market.specs.Clearing.{eligibleSupply, short, eligibleUpTo, eligibleBelow, Clears, clears, clearing, clearingRow}
-use Rattle.offers.specs.Supply.{noRow, rowAt}
 use Rattle.offers.proofs.SupplyLaws.{
   supply-within,
   supply-mono,

@@ -1,18 +1,19 @@
--- Laws of lists of different numbers: of the test whether a number is among them, of one more, and of those that stay when
--- some are taken away. Assumes nothing.
+-- Laws of lists of different numbers: of the test whether a number is among them, that rising numbers are different, and of
+-- those that stay when some are taken away. Assumes nothing.
 use Prim.Native.Nat.{ℕ, zero, suc, _<_}
 use mathlib.Core.Path.{_≡_, refl, sym, _∙_, ap}
-use mathlib.Core.Logic.{_≢_}
 use mathlib.Core.Bool.{Bool, true, false, cond, _&&_, _||_, not, and-false}
-use mathlib.Core.List.{List, [], _∷_, _++_, List·Memᴰ, List·Memᴰ·head, List·Memᴰ·tail, Memᴰ·cast}
+use mathlib.Core.List.{List, [], _∷_, List·Memᴰ, List·Memᴰ·head, List·Memᴰ·tail, Memᴰ·cast}
 use native.Mathlib.Omega.{arith}
 use lib.Dec.{eqb}
 use lib.ListN.{length, getD}
 use borrow.Author.Tests.{eq-eqb, ne-eqb, eqb-true, eqb-false}
 use Rattle.base.proofs.Tests.{false-true, or-fst, or-snd}
 use Rattle.base.proofs.Members.{member-at}
+use Rattle.base.proofs.RisingLaws.{not-among}
+use Rattle.numbers.proofs.NumberLaws.{Rises, nothing, from}
 use Rattle.pivotal.specs.Suppliers.{Absent, Distinct, staying}
-use Rattle.base.specs.Rising.{among}
+use Rattle.base.specs.Rising.{among, RisingFrom, end, next}
 
 pub among-member : {k : ℕ} {ks : List ℕ} → List·Memᴰ k ks → among k ks ≡ true
 unfolding among
@@ -43,15 +44,14 @@ absent k [] e = Absent.none
 absent k (j ∷ ks) e =
     Absent.more (λ f. eqb-false k j (or-fst (eqb k j) (among k ks) e) (sym f)) (absent k ks (or-snd (eqb k j) (among k ks) e))
 
--- one more number behind
-absent-behind : {j k : ℕ} {ks : List ℕ} → k ≢ j → Absent j ks → Absent j (ks ++ (k ∷ []))
-absent-behind h Absent.none = Absent.more h Absent.none
-absent-behind h (Absent.more n a) = Absent.more n (absent-behind h a)
+-- rising numbers are different
+rising-distinct : {b : ℕ} {ks : List ℕ} → RisingFrom b ks → Distinct ks
+rising-distinct end = Distinct.none
+rising-distinct (next {x = k} {xs = ks} h r) = Distinct.more (absent k ks (not-among k (omega arith) r)) (rising-distinct r)
 
-pub distinct-behind : {k : ℕ} {ks : List ℕ} → Distinct ks → Absent k ks → Distinct (ks ++ (k ∷ []))
-distinct-behind Distinct.none Absent.none = Distinct.more Absent.none Distinct.none
-distinct-behind (Distinct.more a d) (Absent.more h b) =
-    Distinct.more (absent-behind (λ e. h (sym e)) a) (distinct-behind d b)
+pub rises-distinct : {ks : List ℕ} → Rises ks → Distinct ks
+rises-distinct nothing = Distinct.none
+rises-distinct (from {x = k} {xs = ks} r) = Distinct.more (absent k ks (not-among k (omega arith) r)) (rising-distinct r)
 
 not-there : {k : ℕ} {ks : List ℕ} → Absent k ks → List·Memᴰ k ks → ⊥
 not-there a m = false-true (sym (among-absent a) ∙ among-member m)

@@ -11,11 +11,10 @@ use borrow.Author.Tests.{le-leb, lt-leb, lt-ltb, le-ltb, ltb-true, ltb-false, eq
 use Rattle.base.proofs.Tests.{false-true, lt-or-ge, and-fst, and-snd}
 use Rattle.base.proofs.Members.{place-of}
 use Rattle.tables.specs.Rows.{SupplyRow, supplyRows}
-use Rattle.tables.proofs.RowViews.{supply-length}
+use Rattle.cells.proofs.RowViews.{supply-length}
 use Rattle.market.specs.declared.narrowing.Bounds.{Bounds}
-use Rattle.offers.specs.Supply.{eligible, supply, supplyOf, costBeside, atMost, below}
+use Rattle.offers.specs.Supply.{eligible, supply, supplyOf, costBeside, atMost, below, noRow, rowAt}
 use Rattle.market.specs.Clearing.{eligibleUpTo, eligibleBelow, clears}
-use Rattle.offers.specs.Supply.{noRow, rowAt}
 use Rattle.market.specs.Narrowing.{
   eligibleAt,
   counts,
@@ -26,7 +25,8 @@ use Rattle.market.specs.Narrowing.{
   Narrows,
   ClearingCost,
 }
-use Rattle.offers.specs.Ranges.{cellsRow, SupplyCells}
+use Rattle.cells.specs.Views.{supplyAt}
+use Rattle.offers.specs.Ranges.{SupplyCells}
 use Rattle.offers.proofs.CellLaws.{row-at}
 use Rattle.market.proofs.ClearingLaws.{
   up-to,
@@ -151,24 +151,24 @@ clears-nothing cutoff need e rows q = simp (le-ltb (supplyOf (eligibleBelow cuto
 
 -- what the test of two rows' costs says
 module _ (n : ℕ) (cells : List ℕ) (i j : ℕ) where
-  not-cheaper : cheaper n cells i j ≡ false → (i < n) × (j < n) × (atMost (cellsRow cells i) (cellsRow cells j) ≡ true)
+  not-cheaper : cheaper n cells i j ≡ false → (i < n) × (j < n) × (atMost (supplyAt cells i) (supplyAt cells j) ≡ true)
   unfolding cheaper
   not-cheaper e = go (ltb i n) (ltb j n) refl refl e
     where
       its : Bool
-      its = below (cellsRow cells j) (cellsRow cells i)
+      its = below (supplyAt cells j) (supplyAt cells i)
 
       go :
           (t u : Bool) → ltb i n ≡ t → ltb j n ≡ u → cond (t && u) its true ≡ false →
-          (i < n) × (j < n) × (atMost (cellsRow cells i) (cellsRow cells j) ≡ true)
+          (i < n) × (j < n) × (atMost (supplyAt cells i) (supplyAt cells j) ≡ true)
       go true true f g e =
-          (ltb-true i n f, ltb-true j n g, at-most (cellsRow cells j) (cellsRow cells i) (not-below-most (cellsRow cells i) (cellsRow cells j) e))
+          (ltb-true i n f, ltb-true j n g, at-most (supplyAt cells j) (supplyAt cells i) (not-below-most (supplyAt cells i) (supplyAt cells j) e))
       go true false f g e = false-true (sym e)
       go false u f g e = false-true (sym e)
 
-  is-cheaper : cheaper n cells i j ≡ true → i < n → j < n → AtMost (cellsRow cells i) (cellsRow cells j)
+  is-cheaper : cheaper n cells i j ≡ true → i < n → j < n → AtMost (supplyAt cells i) (supplyAt cells j)
   unfolding cheaper
-  is-cheaper e h k = below-most (cellsRow cells i) (cellsRow cells j) (simp (lt-ltb i n h, lt-ltb j n k) at e)
+  is-cheaper e h k = below-most (supplyAt cells i) (supplyAt cells j) (simp (lt-ltb i n h, lt-ltb j n k) at e)
 
 and-cases : (s t u : Bool) → s ≡ true → (s && (t && u)) ≡ false → (t ≡ false) ⊎ (u ≡ false)
 and-cases true true u c e = inr e
@@ -178,7 +178,7 @@ and-cases false t u c e = false-true c
 -- one row looked at
 module _ (n : ℕ) (cells : List ℕ) (cutoff need : ℕ) (b : Bounds) (bounding : Bounding n cells cutoff need b) (i : ℕ) where
   abbrev q : SupplyRow
-  q = cellsRow cells i
+  q = supplyAt cells i
 
   not-between : between n cells cutoff b i ≡ false → counts cutoff q ≡ true → Outside n cells b q
   unfolding between
@@ -229,9 +229,9 @@ module _ (n : ℕ) (cells : List ℕ) (cutoff need : ℕ) (b : Bounds) (bounding
           now-outside = λ _ _. inl (h, itself);
         }
       where
-        further : (r : SupplyRow) → b .low < n → atMost (cellsRow cells (b .low)) r ≡ true → atMost q r ≡ true
+        further : (r : SupplyRow) → b .low < n → atMost (supplyAt cells (b .low)) r ≡ true → atMost q r ≡ true
         further r k a =
-            let low = cellsRow cells (b .low) in
+            let low = supplyAt cells (b .low) in
             at-most r q
             (through-supply r low q (counts-supplies cutoff low (bounding .low-counts k)) (at-most-true r low a) (is-cheaper n cells (b .low) i over-low k h))
 
@@ -248,9 +248,9 @@ module _ (n : ℕ) (cells : List ℕ) (cutoff need : ℕ) (b : Bounds) (bounding
           now-outside = λ _ _. inr (h, itself);
         }
       where
-        further : (r : SupplyRow) → b .high < n → atMost r (cellsRow cells (b .high)) ≡ true → atMost r q ≡ true
+        further : (r : SupplyRow) → b .high < n → atMost r (supplyAt cells (b .high)) ≡ true → atMost r q ≡ true
         further r k a =
-            let high = cellsRow cells (b .high) in
+            let high = supplyAt cells (b .high) in
             at-most q r
             (through-supply q high r (counts-supplies cutoff high (bounding .high-counts k)) (is-cheaper n cells i (b .high) under-high h k) (at-most-true high r a))
 
@@ -278,8 +278,8 @@ turn-of i h = (omega arith, ⊎-elim (λ l. absurd (omega arith)) (λ l. same (o
 pub record Searching (n : ℕ) (cells : List ℕ) (cutoff need turn : ℕ) (b : Bounds) : Type 0 where
   pub bounding : Bounding n cells cutoff need b
   pub outside :
-      (t : ℕ) → t < turn → visited t < n → counts cutoff (cellsRow cells (visited t)) ≡ true →
-      Outside n cells b (cellsRow cells (visited t))
+      (t : ℕ) → t < turn → visited t < n → counts cutoff (supplyAt cells (visited t)) ≡ true →
+      Outside n cells b (supplyAt cells (visited t))
 
 module _ (n : ℕ) (cells : List ℕ) (cutoff need : ℕ) where
   pub searching-none : Searching n cells cutoff need 0 record { low = n; high = n }
@@ -301,8 +301,8 @@ module _ (n : ℕ) (cells : List ℕ) (cutoff need : ℕ) where
       record { bounding = l .bounding; outside = passed }
     where
       passed :
-          (t : ℕ) → t < turn + 1 → visited t < n → counts cutoff (cellsRow cells (visited t)) ≡ true →
-          Outside n cells r (cellsRow cells (visited t))
+          (t : ℕ) → t < turn + 1 → visited t < n → counts cutoff (supplyAt cells (visited t)) ≡ true →
+          Outside n cells r (supplyAt cells (visited t))
       passed t h k c =
           ⊎-elim
           (λ earlier. l .still-outside _ (s .outside t earlier k c))
@@ -320,7 +320,7 @@ module _ (n : ℕ) (cells : List ℕ) (cutoff need : ℕ) where
       rows = supplyRows n cells
 
       -- each row that counts
-      each-place : (i : ℕ) → i < n → counts cutoff (cellsRow cells i) ≡ true → Outside n cells b (cellsRow cells i)
+      each-place : (i : ℕ) → i < n → counts cutoff (supplyAt cells i) ≡ true → Outside n cells b (supplyAt cells i)
       each-place i h c =
           let few = in-range .few in
           let (small, back) = turn-of i (omega arith) in
@@ -331,20 +331,20 @@ module _ (n : ℕ) (cells : List ℕ) (cutoff need : ℕ) where
       each-row r m c =
           let (i, h, e) = place-of noRow m in
           let k : i < n = omega (arith, supply-length n cells) in
-          let same : cellsRow cells i ≡ r = sym (row-at n cells i k) ∙ e in
+          let same : supplyAt cells i ≡ r = sym (row-at n cells i k) ∙ e in
           rw same at (each-place i k (rw same c))
 
       -- whatever lies at or below the low bound supplies less than the need
       low-less :
           (p : SupplyRow → Bool) →
           ((r : SupplyRow) → p r ≡ true → eligible cutoff r ≡ true) →
-          ((r : SupplyRow) → p r ≡ true → Outside n cells b r → (b .low < n) × (atMost (cellsRow cells (b .low)) r ≡ true)) →
+          ((r : SupplyRow) → p r ≡ true → Outside n cells b r → (b .low < n) × (atMost (supplyAt cells (b .low)) r ≡ true)) →
           supplyOf p rows < need
       unfolding rows
       low-less p el at-low = ⊎-elim some none (lt-or-ge (b .low) n)
         where
           low : SupplyRow
-          low = cellsRow cells (b .low)
+          low = supplyAt cells (b .low)
 
           outside : (r : SupplyRow) → List·Memᴰ r rows → 0 < supply r → p r ≡ true → Outside n cells b r
           outside r m pos e = each-row r m (counting cutoff r (el r e) pos)
@@ -367,9 +367,9 @@ module _ (n : ℕ) (cells : List ℕ) (cutoff need : ℕ) where
                     (λ r m pos e. absurd (omega (arith, at-low r e (outside r m pos e) .0))),
               )
 
-      high-less : b .high < n → supplyOf (eligibleBelow cutoff (cellsRow cells (b .high))) rows < need
+      high-less : b .high < n → supplyOf (eligibleBelow cutoff (supplyAt cells (b .high))) rows < need
       high-less h =
-          let high = cellsRow cells (b .high) in
+          let high = supplyAt cells (b .high) in
           low-less (eligibleBelow cutoff high) (λ r e. below-eligible cutoff high r e)
           (λ r e o. ⊎-elim (λ l. l) (λ l. absurd (not-below r high (at-most-true high r (l .1)) (below-strictly cutoff high r e))) o)
 
@@ -378,7 +378,7 @@ module _ (n : ℕ) (cells : List ℕ) (cutoff need : ℕ) where
       searching-over =
           record {
             at-cost = λ h.
-                let high = cellsRow cells (b .high) in
+                let high = supplyAt cells (b .high) in
                 clears-at cutoff need rows high (counts-supplies cutoff high (s .bounding .high-counts h)) (s .bounding .high-enough h) (high-less h);
             none-clears = λ h.
                 clears-none cutoff need rows

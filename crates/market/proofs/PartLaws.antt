@@ -7,7 +7,8 @@ use native.Mathlib.Omega.{arith}
 use lib.ListN.{drop}
 use Rattle.tables.specs.Rows.{SupplyRow, supplyRows}
 use Rattle.offers.specs.Supply.{supply, supplyOf}
-use Rattle.offers.specs.Ranges.{SupplyCells, cellsRow}
+use Rattle.cells.specs.Views.{supplyAt}
+use Rattle.offers.specs.Ranges.{SupplyCells}
 use Rattle.offers.proofs.RangeLaws.{mostSupply, part-small, supply-small}
 use Rattle.offers.proofs.CellLaws.{rows-next, rows-end, row-cells}
 
@@ -24,10 +25,10 @@ module _ (n : ℕ) (cells : List ℕ) (p : SupplyRow → Bool) where
   -- the next row, which adds a
   module _
       (i sum a : ℕ) (s : SupplyCells n cells) (h : i < n)
-      (e : a ≡ cond (p (cellsRow cells i)) (supply (cellsRow cells i)) 0) (so-far : Adding n cells p i sum)
+      (e : a ≡ cond (p (supplyAt cells i)) (supply (supplyAt cells i)) 0) (so-far : Adding n cells p i sum)
     where
       small : a ≤ mostSupply
-      small = rw e (part-small (p (cellsRow cells i)) _ (supply-small (cellsRow cells i) (row-cells n cells i s h .permitted)))
+      small = rw e (part-small (p (supplyAt cells i)) _ (supply-small (supplyAt cells i) (row-cells n cells i s h .permitted)))
 
       pub adding-fits : sum + a < 2 ^ 64
       adding-fits = omega (arith, small, so-far .bounded, s .few)

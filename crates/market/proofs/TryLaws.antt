@@ -10,10 +10,10 @@ use lib.ListN.{length, drop}
 use Rattle.base.specs.Search.{first}
 use Rattle.base.proofs.Searches.{first-none, first-here, first-later}
 use Rattle.tables.specs.Rows.{SupplyRow, supplyRows}
-use Rattle.tables.proofs.RowViews.{supply-length}
+use Rattle.cells.proofs.RowViews.{supply-length}
 use Rattle.market.specs.Clearing.{clears, clearing}
 use Rattle.market.specs.Narrowing.{eligibleAt, firstAt}
-use Rattle.offers.specs.Ranges.{cellsRow}
+use Rattle.cells.specs.Views.{supplyAt}
 use Rattle.offers.proofs.CellLaws.{rows-next, rows-end}
 
 -- of n rows the first i have been tried, and none of them passes
@@ -26,19 +26,19 @@ module _ (n : ℕ) (cells : List ℕ) (p : SupplyRow → Bool) where
   trying-none = record { upto = omega arith; not-yet = refl }
 
   module _ (i : ℕ) (l : Trying n cells p i) where
-    pub trying-next : i < n → p (cellsRow cells i) ≡ false → Trying n cells p (i + 1)
+    pub trying-next : i < n → p (supplyAt cells i) ≡ false → Trying n cells p (i + 1)
     trying-next h e =
         record {
           upto = omega arith;
           not-yet =
               l .not-yet
-              ∙ rw (rows-next n cells i h, add-one) (first-later p i (cellsRow cells i) (drop (suc i) (supplyRows n cells)) e);
+              ∙ rw (rows-next n cells i h, add-one i) (first-later p i (supplyAt cells i) (drop (suc i) (supplyRows n cells)) e);
         }
 
     pub trying-here :
-        i < n → p (cellsRow cells i) ≡ true → i ≡ Option·getD (first p 0 (supplyRows n cells)) (length (supplyRows n cells))
+        i < n → p (supplyAt cells i) ≡ true → i ≡ Option·getD (first p 0 (supplyRows n cells)) (length (supplyRows n cells))
     trying-here h e =
-        rw (l .not-yet, rows-next n cells i h, first-here p i (cellsRow cells i) (drop (i + 1) (supplyRows n cells)) e)
+        rw (l .not-yet, rows-next n cells i h, first-here p i (supplyAt cells i) (drop (i + 1) (supplyRows n cells)) e)
 
     pub trying-over : n ≤ i → n ≡ Option·getD (first p 0 (supplyRows n cells)) (length (supplyRows n cells))
     trying-over h = rw (l .not-yet, rows-end n cells i h, first-none p i) (sym (supply-length n cells))

@@ -1,11 +1,11 @@
 -- Document 01, "Market and verdict", point 5: the suppliers that are tested, each with its relevant supply. "A supplier with
 -- no relevant row is tested with 0 of its own." Assumes nothing.
 use Prim.Native.Nat.{ℕ}
-use mathlib.Core.Bool.{Bool, cond, _&&_}
-use mathlib.Core.List.{List, [], _∷_, _++_, map}
+use mathlib.Core.Bool.{Bool, _&&_}
+use mathlib.Core.List.{List, map}
 use lib.Dec.{eqb}
+use Rattle.numbers.specs.Numbers.{numbersOf}
 use Rattle.tables.specs.Rows.{SupplyRow}
-use Rattle.base.specs.Rising.{among}
 use Rattle.offers.specs.Supply.{supplyOf}
 use Rattle.offers.specs.Relevant.{relevant}
 
@@ -13,17 +13,9 @@ use Rattle.offers.specs.Relevant.{relevant}
 unfoldable pub party : SupplyRow → ℕ
 party r = r .supplier
 
--- the parties ks, and behind them k, unless it is among them
-unfoldable pub met : List ℕ → ℕ → List ℕ
-met ks k = cond (among k ks) ks (ks ++ (k ∷ []))
-
-unfoldable pub metAll : List ℕ → List SupplyRow → List ℕ
-metAll ks [] = ks
-metAll ks (r ∷ rows) = metAll (met ks (party r)) rows
-
--- the different parties of the rows, in the order in which they first appear
+-- the different parties of the rows, by rising number
 unfoldable pub parties : List SupplyRow → List ℕ
-parties rows = metAll [] rows
+parties rows = numbersOf party rows
 
 -- whether the row r counts for the party k, where the row q clears
 unfoldable pub relevantOf : ℕ → SupplyRow → ℕ → SupplyRow → Bool

@@ -8,13 +8,14 @@ use Rattle.market.specs.declared.parts.Part.the-variants.{Eligible, UpTo
 use Rattle.offers.specs.Supply.{eligible}
 use Rattle.market.specs.Clearing.{eligibleUpTo}
 use Rattle.market.specs.Parties.{relevantOf}
-use Rattle.offers.specs.Ranges.{RowCells, cellsRow}
+use Rattle.cells.specs.Views.{supplyAt}
+use Rattle.offers.specs.Ranges.{RowCells}
 
 -- whether a row belongs to a part, which names another row by its place in the cells
 unfoldable pub inPart : List ℕ → ℕ → Part → SupplyRow → Bool
 inPart cells cutoff Eligible = eligible cutoff
-inPart cells cutoff (UpTo q) = eligibleUpTo cutoff (cellsRow cells q)
-inPart cells cutoff (RelevantOf q k) = relevantOf cutoff (cellsRow cells q) k
+inPart cells cutoff (UpTo q) = eligibleUpTo cutoff (supplyAt cells q)
+inPart cells cutoff (RelevantOf q k) = relevantOf cutoff (supplyAt cells q) k
 
 -- the row that a part names stands in the cells
 abbrev pub PartCells : List ℕ → Part → Type 0

@@ -2,7 +2,8 @@
 ghost use mathlib.Core.Path.{_≡_};
 ghost use Prim.Native.Nat.{_≤_, _<_};
 ghost use Rattle.tables.specs.Rows.{supplyRows};
-ghost use Rattle.offers.specs.Ranges.{RowCells, SupplyCells, cellsRow, mostRelief};
+ghost use Rattle.cells.specs.Views.{supplyAt};
+ghost use Rattle.offers.specs.Ranges.{RowCells, SupplyCells, mostRelief};
 ghost use Rattle.market.specs.Clearing.{eligibleSupply, needOf, clearing};
 ghost use Rattle.market.specs.Narrowing.{eligibleAt, firstAt};
 use crate::narrowing::clearing_cost;
@@ -49,7 +50,7 @@ pub fn clearing_row(cells: &[u64], n: usize, cutoff: u64, need: u64) -> usize
 fn first_at(cells: &[u64], n: usize, cutoff: u64, limit: usize) -> usize
     requires { ⌜ SupplyCells n (now cells) ⌝ }
     requires { ⌜ limit < n ⌝ }
-    ensures { λ r. ⌜ r ≡ firstAt cutoff (cellsRow (now (cells .entry)) limit) (supplyRows n (now (cells .entry))) ⌝ }
+    ensures { λ r. ⌜ r ≡ firstAt cutoff (supplyAt (now (cells .entry)) limit) (supplyRows n (now (cells .entry))) ⌝ }
 {
     let mut row = 0;
     while row < n {
@@ -64,7 +65,7 @@ fn first_at(cells: &[u64], n: usize, cutoff: u64, limit: usize) -> usize
 fn is_at(cells: &[u64], row: usize, limit: usize, cutoff: u64) -> bool
     requires { ⌜ RowCells (now cells) row ⌝ }
     requires { ⌜ RowCells (now cells) limit ⌝ }
-    ensures { λ r. ⌜ r ≡ eligibleAt cutoff (cellsRow (now (cells .entry)) limit) (cellsRow (now (cells .entry)) row) ⌝ }
+    ensures { λ r. ⌜ r ≡ eligibleAt cutoff (supplyAt (now (cells .entry)) limit) (supplyAt (now (cells .entry)) row) ⌝ }
 {
     if is_eligible(cells, row, cutoff) {
         return cost_beside(cells, limit, row) == cost_beside(cells, row, limit);

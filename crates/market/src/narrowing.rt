@@ -2,7 +2,8 @@
 // and becomes one of them; any other costs two comparisons.
 ghost use mathlib.Core.Path.{_≡_};
 ghost use Prim.Native.Nat.{_<_};
-ghost use Rattle.offers.specs.Ranges.{RowCells, SupplyCells, cellsRow};
+ghost use Rattle.cells.specs.Views.{supplyAt};
+ghost use Rattle.offers.specs.Ranges.{RowCells, SupplyCells};
 ghost use Rattle.market.specs.Narrowing.{counts as Narrowing·counts, cheaper, between, Bounding, Narrows, ClearingCost};
 use crate::parts::Part;
 use crate::parts::supply_of;
@@ -80,7 +81,7 @@ fn is_between(cells: &[u64], n: usize, cutoff: u64, bounds: Bounds, row: usize) 
 // Rows that supply nothing aren't tried: some row of the clearing cost supplies something.
 fn counts(cells: &[u64], row: usize, cutoff: u64) -> bool
     requires { ⌜ RowCells (now cells) row ⌝ }
-    ensures { λ r. ⌜ r ≡ Narrowing·counts cutoff (cellsRow (now (cells .entry)) row) ⌝ }
+    ensures { λ r. ⌜ r ≡ Narrowing·counts cutoff (supplyAt (now (cells .entry)) row) ⌝ }
 {
     if is_eligible(cells, row, cutoff) {
         return 0 < effective_supply(cells, row);

@@ -3,7 +3,8 @@
 ghost use mathlib.Core.Path.{_≡_};
 ghost use mathlib.Core.Bool.{cond};
 ghost use Rattle.tables.specs.Rows.{supplyRows};
-ghost use Rattle.offers.specs.Ranges.{RowCells, SupplyCells, cellsRow};
+ghost use Rattle.cells.specs.Views.{supplyAt};
+ghost use Rattle.offers.specs.Ranges.{RowCells, SupplyCells};
 ghost use Rattle.offers.specs.Supply.{supply, supplyOf};
 ghost use Rattle.market.specs.Clearing.{eligibleUpTo};
 ghost use Rattle.market.specs.Parties.{relevantOf};
@@ -41,7 +42,7 @@ pub fn supply_of(cells: &[u64], n: usize, cutoff: u64, part: Part) -> u64
 fn supply_in(cells: &[u64], row: usize, cutoff: u64, part: Part) -> u64
     requires { ⌜ RowCells (now cells) row ⌝ }
     requires { ⌜ PartCells (now cells) part ⌝ }
-    ensures { λ r. ⌜ r ≡ cond (inPart (now (cells .entry)) cutoff part (cellsRow (now (cells .entry)) row)) (supply (cellsRow (now (cells .entry)) row)) 0 ⌝ }
+    ensures { λ r. ⌜ r ≡ cond (inPart (now (cells .entry)) cutoff part (supplyAt (now (cells .entry)) row)) (supply (supplyAt (now (cells .entry)) row)) 0 ⌝ }
 {
     if is_in(cells, row, cutoff, part) {
         return effective_supply(cells, row);
@@ -52,7 +53,7 @@ fn supply_in(cells: &[u64], row: usize, cutoff: u64, part: Part) -> u64
 fn is_in(cells: &[u64], row: usize, cutoff: u64, part: Part) -> bool
     requires { ⌜ RowCells (now cells) row ⌝ }
     requires { ⌜ PartCells (now cells) part ⌝ }
-    ensures { λ r. ⌜ r ≡ inPart (now (cells .entry)) cutoff part (cellsRow (now (cells .entry)) row) ⌝ }
+    ensures { λ r. ⌜ r ≡ inPart (now (cells .entry)) cutoff part (supplyAt (now (cells .entry)) row) ⌝ }
 {
     match part {
         Part::Eligible => is_eligible(cells, row, cutoff),
@@ -64,7 +65,7 @@ fn is_in(cells: &[u64], row: usize, cutoff: u64, part: Part) -> bool
 fn is_up_to(cells: &[u64], row: usize, limit: usize, cutoff: u64) -> bool
     requires { ⌜ RowCells (now cells) row ⌝ }
     requires { ⌜ RowCells (now cells) limit ⌝ }
-    ensures { λ r. ⌜ r ≡ eligibleUpTo cutoff (cellsRow (now (cells .entry)) limit) (cellsRow (now (cells .entry)) row) ⌝ }
+    ensures { λ r. ⌜ r ≡ eligibleUpTo cutoff (supplyAt (now (cells .entry)) limit) (supplyAt (now (cells .entry)) row) ⌝ }
 {
     if cost_beside(cells, limit, row) <= cost_beside(cells, row, limit) {
         return is_eligible(cells, row, cutoff);
@@ -76,7 +77,7 @@ fn is_up_to(cells: &[u64], row: usize, limit: usize, cutoff: u64) -> bool
 fn is_relevant_of(cells: &[u64], row: usize, clearing: usize, cutoff: u64, k: u64) -> bool
     requires { ⌜ RowCells (now cells) row ⌝ }
     requires { ⌜ RowCells (now cells) clearing ⌝ }
-    ensures { λ r. ⌜ r ≡ relevantOf cutoff (cellsRow (now (cells .entry)) clearing) k (cellsRow (now (cells .entry)) row) ⌝ }
+    ensures { λ r. ⌜ r ≡ relevantOf cutoff (supplyAt (now (cells .entry)) clearing) k (supplyAt (now (cells .entry)) row) ⌝ }
 {
     if party(cells, row) == k {
         return is_relevant(cells, row, clearing, cutoff);

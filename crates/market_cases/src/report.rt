@@ -1,7 +1,8 @@
 // What a case prints, in one line: the need, the eligible supply, `short` where it is below the
-// need, the rows, and where it is not short the clearing row's place and the suppliers. Each row is
-// its effective supply and a letter: `r` where it is relevant, `e` where it is only eligible, else
-// `-`. Each supplier is its number, its amount, and what the test answers: left and verdict.
+// need, the rows, and where it is not short the clearing row's place and the suppliers, by rising
+// number. Each row is its effective supply and a letter: `r` where it is relevant, `e` where it is
+// only eligible, else `-`. Each supplier is its number, its amount, and what the test answers: left
+// and verdict.
 // Assumes nothing but a relief that the table permits.
 ghost use Prim.Native.Nat.{_≤_, _<_};
 ghost use lib.ListN.{length};
@@ -13,10 +14,11 @@ use pivotal::Verdict;
 use tables::File;
 use tables::Reading;
 
-// The most rows of supply, and the cells of so many.
-const ROWS: usize = 256;
-
+// The cells of the most rows of supply.
 const CELLS: usize = 1280;
+
+// Room for the suppliers of so many rows, and for one more.
+const SUPPLIERS: usize = 257;
 
 // The market of a supply file, whose rows are lent as the cells that reading lays down, for a relief
 // that the table permits.
@@ -83,9 +85,9 @@ fn print_suppliers(cells: &[u64], n: usize, cutoff: u64, need: u64, clearing: us
     requires { ⌜ SupplyCells n (now cells) ⌝ }
     requires { ⌜ clearing < n ⌝ }
 {
-    let mut suppliers = [0u64; ROWS];
+    let mut suppliers = [0u64; SUPPLIERS];
     let count = market::list_parties(cells, n, &mut suppliers);
-    let mut amounts = [0u64; ROWS];
+    let mut amounts = [0u64; SUPPLIERS];
     market::add_amounts(cells, n, cutoff, clearing, &suppliers, count, &mut amounts);
     print(b" suppliers");
     print_tests(&suppliers, &amounts, count, need);

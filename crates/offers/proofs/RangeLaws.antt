@@ -9,7 +9,7 @@ use native.Mathlib.Nat.{mul-le-mul}
 use lib.ListN.{length}
 use Rattle.tables.specs.Ranges.{PermittedSupply}
 use Rattle.tables.specs.Rows.{SupplyRow, size}
-use Rattle.offers.specs.Offer.{capped, highest}
+use Rattle.offers.specs.Offer.{capped, ceiling}
 use Rattle.offers.specs.Supply.{absDfax, supply, supplyOf, offer, costBeside}
 
 -- the most that one row supplies
@@ -25,7 +25,7 @@ module _ (r : SupplyRow) (p : PermittedSupply r) where
   unfolding supply
   supply-small = mul-le-mul (p .mw) abs-small
 
-offer-small : (r : SupplyRow) → offer r ≤ highest
+offer-small : (r : SupplyRow) → offer r ≤ ceiling
 unfolding offer capped
 offer-small r = omega arith
 

@@ -2,9 +2,9 @@
 -- 10000, but at most 200000 (6.4.2)." Assumes nothing.
 use Prim.Native.Nat.{ℕ, _+_, _/_, min}
 
--- the highest capped offer, and the highest incremental cost that the table permits
-abbrev pub highest : ℕ
-highest = 200000
+-- no capped offer is higher
+abbrev pub ceiling : ℕ
+ceiling = 200000
 
 unfoldable pub capped : ℕ → ℕ
-capped c = min (c + min (c / 10) 10000) highest
+capped c = min (c + min (c / 10) 10000) ceiling

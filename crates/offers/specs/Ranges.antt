@@ -2,22 +2,19 @@
 -- and products fit. Assumes nothing itself.
 use Prim.Native.Nat.{ℕ, _+_, _*_, _≤_}
 use mathlib.Core.List.{List, List·Memᴰ}
-use lib.ListN.{length, drop}
+use lib.ListN.{length}
 use Rattle.tables.specs.Table.{columnAt, firstColumn, table}
 use Rattle.tables.specs.Ranges.{PermittedSupply}
-use Rattle.tables.specs.Rows.{SupplyRow, supplyRow, supplyRows}
+use Rattle.tables.specs.Rows.{SupplyRow, supplyRows}
+use Rattle.cells.specs.Views.{supplyAt}
 use Rattle.tables.specs.declared.files.File.the-variants.{Constraint, Supply}
 
 abbrev pub mostRelief : ℕ
 mostRelief = columnAt (firstColumn Constraint + 1) .maximum
 
--- the row that stands in a run of cells at a place
-abbrev pub cellsRow : List ℕ → ℕ → SupplyRow
-cellsRow cells i = supplyRow (drop (i * 5) cells)
-
 pub record RowCells (cells : List ℕ) (i : ℕ) : Type 0 where
   pub inside : i * 5 + 5 ≤ length cells
-  pub permitted : PermittedSupply (cellsRow cells i)
+  pub permitted : PermittedSupply (supplyAt cells i)
 
 -- a run of cells that begins with n rows
 pub record SupplyCells (n : ℕ) (cells : List ℕ) : Type 0 where

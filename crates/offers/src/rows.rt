@@ -1,34 +1,29 @@
 // What a supply row is, from its cells: its supplier, effective supply, eligibility, and its effective
 // cost beside another row's.
 ghost use mathlib.Core.Path.{_≡_};
-ghost use Rattle.offers.specs.Ranges.{RowCells, cellsRow};
+ghost use Rattle.cells.specs.Views.{supplyAt};
+ghost use Rattle.offers.specs.Ranges.{RowCells};
 ghost use Rattle.offers.specs.Supply.{absDfax, supply, eligible, costBeside};
 use crate::offer::capped;
-
-// The cells of a row, and their places in it.
-const WIDTH: usize = 5;
-
-const SUPPLIER: usize = 1;
-
-const MW: usize = 2;
-
-const COST: usize = 3;
-
-const DFAX: usize = 4;
+use cells::supply::COST;
+use cells::supply::DFAX;
+use cells::supply::MW;
+use cells::supply::SUPPLIER;
+use cells::supply::WIDTH;
 
 // The cell of a dfax of 0.
 const NO_DFAX: u64 = 10000;
 
 pub fn supplier(cells: &[u64], row: usize) -> u64
     requires { ⌜ RowCells (now cells) row ⌝ }
-    ensures { λ r. ⌜ r ≡ cellsRow (now (cells .entry)) row .supplier ⌝ }
+    ensures { λ r. ⌜ r ≡ supplyAt (now (cells .entry)) row .supplier ⌝ }
 {
     cells[row * WIDTH + SUPPLIER]
 }
 
 fn abs_dfax(cells: &[u64], row: usize) -> u64
     requires { ⌜ RowCells (now cells) row ⌝ }
-    ensures { λ r. ⌜ r ≡ absDfax (cellsRow (now (cells .entry)) row) ⌝ }
+    ensures { λ r. ⌜ r ≡ absDfax (supplyAt (now (cells .entry)) row) ⌝ }
 {
     let dfax = cells[row * WIDTH + DFAX];
     if dfax < NO_DFAX {
@@ -39,7 +34,7 @@ fn abs_dfax(cells: &[u64], row: usize) -> u64
 
 pub fn effective_supply(cells: &[u64], row: usize) -> u64
     requires { ⌜ RowCells (now cells) row ⌝ }
-    ensures { λ r. ⌜ r ≡ supply (cellsRow (now (cells .entry)) row) ⌝ }
+    ensures { λ r. ⌜ r ≡ supply (supplyAt (now (cells .entry)) row) ⌝ }
 {
     let mw = cells[row * WIDTH + MW];
     mw * abs_dfax(cells, row)
@@ -47,7 +42,7 @@ pub fn effective_supply(cells: &[u64], row: usize) -> u64
 
 pub fn is_eligible(cells: &[u64], row: usize, cutoff: u64) -> bool
     requires { ⌜ RowCells (now cells) row ⌝ }
-    ensures { λ r. ⌜ r ≡ eligible cutoff (cellsRow (now (cells .entry)) row) ⌝ }
+    ensures { λ r. ⌜ r ≡ eligible cutoff (supplyAt (now (cells .entry)) row) ⌝ }
 {
     cutoff <= abs_dfax(cells, row)
 }
@@ -56,7 +51,7 @@ pub fn is_eligible(cells: &[u64], row: usize, cutoff: u64) -> bool
 pub fn cost_beside(cells: &[u64], other: usize, row: usize) -> u64
     requires { ⌜ RowCells (now cells) other ⌝ }
     requires { ⌜ RowCells (now cells) row ⌝ }
-    ensures { λ r. ⌜ r ≡ costBeside (cellsRow (now (cells .entry)) other) (cellsRow (now (cells .entry)) row) ⌝ }
+    ensures { λ r. ⌜ r ≡ costBeside (supplyAt (now (cells .entry)) other) (supplyAt (now (cells .entry)) row) ⌝ }
 {
     let cost = cells[row * WIDTH + COST];
     capped(cost) * abs_dfax(cells, other)

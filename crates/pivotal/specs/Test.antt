@@ -83,6 +83,6 @@ place (Tested l v) = 0
 place Refused = 0
 
 -- and for each verdict: its letter, as a byte
-unfoldable pub letter : Verdict → ℕ
+abbrev pub letter : Verdict → ℕ
 letter P = 0x50
 letter F = 0x46

@@ -14,9 +14,9 @@ use tables::width;
 
 const LF: u8 = 0x0A;
 
-const CR: u8 = 0x0D;
+pub const CR: u8 = 0x0D;
 
-const COMMA: u8 = 0x2C;
+pub const COMMA: u8 = 0x2C;
 
 // Lays down the rows of `s`, to the file's end, and answers how many records the file has.
 pub fn lay_rows(

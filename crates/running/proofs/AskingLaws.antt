@@ -1,21 +1,20 @@
 -- Laws of what a study asks of the running units. Assumes nothing.
 use Prim.Native.Nat.{ℕ, suc, _+_, _≤_, _<_}
-use mathlib.Core.Path.{_≡_, refl, sym, _∙_, ap}
+use mathlib.Core.Path.{_≡_, refl, sym, _∙_}
 use mathlib.Core.Bool.{Bool, true, false, cond, not}
-use mathlib.Core.List.{List, [], _∷_, map}
+use mathlib.Core.List.{List, [], _∷_}
 use mathlib.Core.Option.{none, some}
 use native.Mathlib.Nat.{le-of-suc-le-suc, not-suc-le-zero}
 use native.Mathlib.Omega.{arith}
 use lib.Dec.{eqb}
-use lib.ListN.{length, getD, take, drop, length-map}
-use lib.Seq.{length-take-le, getD-take, take-at}
+use lib.ListN.{length, getD, take, drop}
+use lib.Seq.{length-take-le, getD-take}
 use Rattle.base.specs.Search.{one, leading, those}
 use Rattle.base.proofs.Lists.{drop-next, drop-end}
 use Rattle.base.proofs.Searches.{one-le}
-use Rattle.market.proofs.ListingLaws.{Filling}
 use Rattle.tables.specs.declared.files.Kind.{Kind}
 use Rattle.judge.specs.Day.{RunningUnit, runs, kindRunning, wouldRun}
-use Rattle.running.specs.Asking.{kindCell, KindsLaid, newcomers}
+use Rattle.running.specs.Asking.{newcomers}
 use Rattle.running.specs.Places.{placeOf}
 use Rattle.running.specs.View.{missing, unitsOf}
 use Rattle.running.specs.declared.units.Units.{Units}
@@ -84,19 +83,6 @@ module _ (us : Units) (u at : ℕ) (e : at ≡ placeOf u (unitsOf us)) where
 pub newcomers-most : (rs : List RunningUnit) (u a : ℕ) → a ≡ newcomers rs u → a ≤ 1
 unfolding newcomers
 newcomers-most rs u a e = omega (arith, one-le (not (runs u rs)))
-
--- the cells of all units, once each has been laid down
-pub kinds-laid :
-    (running : List RunningUnit) (n i : ℕ) (units old new : List ℕ) → i ≡ n → n ≤ length units →
-    Filling (λ (u : ℕ). kindCell (kindRunning u running)) units old new i → KindsLaid running n units old new
-kinds-laid running n i units old new e h f =
-    let all : Filling (λ (u : ℕ). kindCell (kindRunning u running)) units old new n = rw e at f in
-    let front : length (map (λ (u : ℕ). kindCell (kindRunning u running)) (take n units)) ≡ n =
-    length-map (take n units) (λ (u : ℕ). kindCell (kindRunning u running)) ∙ length-take-le n units h in
-    record {
-      room = all .same-length;
-      kinds = ap (take n) (all .filled) ∙ take-at (map (λ (u : ℕ). kindCell (kindRunning u running)) (take n units)) (drop n old) n front;
-    }
 
 -- Of n units the first i have been counted, those that don't run yet beside those that run.
 pub record Counting (rs : List RunningUnit) (n : ℕ) (units : List ℕ) (i total : ℕ) : Type 0 where

@@ -1,5 +1,5 @@
--- Laws of committing: the choices out of an answer's cells, a turn of the merge, and the merge. Assumes nothing.
-use Prim.Native.Nat.{ℕ, zero, suc, _+_, _≤_, _<_}
+-- Laws of committing: the units chosen, out of an answer's rows, a turn of the merge, and the merge. Assumes nothing.
+use Prim.Native.Nat.{ℕ, zero, suc, _+_, _*_, _≤_, _<_}
 use mathlib.Core.Path.{_≡_, refl, sym, _∙_, ap}
 use mathlib.Core.Bool.{Bool, true, false, _||_}
 use mathlib.Core.List.{List, [], _∷_, _++_, append-nil, map, map-append}
@@ -10,15 +10,14 @@ use lib.ListN.{length, getD, take, drop, set, length-set, length-map, length-app
 use lib.Seq.{length-take-le, take-suc-set, append-snoc}
 use borrow.Author.Tests.{ltb-true, ltb-false}
 use Rattle.base.specs.Rising.{RisingFrom, next}
-use Rattle.base.proofs.Lists.{drop-end, drop-map}
+use Rattle.base.proofs.Lists.{drop-end}
 use Rattle.base.proofs.Tests.{or-fst, or-snd}
-use Rattle.tables.specs.Rows.{rowsOf}
-use Rattle.tables.proofs.RowViews.{row-at, rows-length}
-use Rattle.judge.specs.Answer.{AnswerRow, answerRow, answerRows}
+use Rattle.cells.proofs.RowViews.{answer-next, answer-length}
+use Rattle.cells.specs.Views.{AnswerRow, answerWidth, answerAt, answerRows}
 use Rattle.judge.specs.Day.{RunningUnit, mostRunning, putAll}
 use Rattle.judge.specs.Study.{chosen}
 use Rattle.judge.proofs.DayLaws.{unit, order-rising, put-all-length, merge-before, merge-at, merge-behind, merge-alone}
-use Rattle.running.specs.Committing.{answerAt, choices, answerUnits, Fits, anyLeft, Turns}
+use Rattle.running.specs.Committing.{unitNumbers, Fits, anyLeft, Turns}
 use Rattle.running.specs.Forming.{unitsFormed}
 use Rattle.running.specs.View.{unitOf, firstUnits, unitsOf}
 use Rattle.running.specs.declared.committing.Turn.{Turn}
@@ -27,41 +26,52 @@ use Rattle.running.specs.declared.units.Units.{Units}
 use Rattle.running.proofs.FormingLaws.{ordered}
 use Rattle.running.proofs.ViewLaws.{unused, counted, first-next, first-map}
 
--- the choices, one row after the other
-module _ (n : ℕ) (cells : List ℕ) where
-  pub choices-length : length (choices n cells) ≡ n
-  unfolding answerRows
-  choices-length =
-      length-map (answerRows n cells) chosen ∙ length-map (rowsOf 7 n cells) answerRow ∙ rows-length 7 n cells
+-- one more unit in its place
+stored :
+    (out : List Running) (k : ℕ) (r : Running) → k < length out →
+    map unitOf (take (k + 1) (set out k r)) ≡ map unitOf (take k out) ++ (unitOf r ∷ [])
+stored out k r h = rw (add-one, take-suc-set out k r h) (map-append unitOf (take k out) (r ∷ []))
 
-  row-here :
-      (c : Running) (j : ℕ) → unitOf c ≡ chosen (answerAt cells j) → j < n →
-      drop j (choices n cells) ≡ unitOf c ∷ drop (j + 1) (choices n cells)
-  unfolding answerRows
-  row-here c j e h =
-      rw (
-        e,
-        add-one,
-        drop-map chosen j (answerRows n cells),
-        drop-map answerRow j (rowsOf 7 n cells),
-        row-at 7 n cells j h,
-        drop-map chosen (suc j) (answerRows n cells),
-        drop-map answerRow (suc j) (rowsOf 7 n cells),
-      )
+-- of n rows the first i are laid down as what they have running
+pub record Choosing (n : ℕ) (cells : List ℕ) (out : List Running) (i : ℕ) : Type 0 where
+  pub upto : i ≤ n
+  pub most : n ≤ mostRunning
+  pub room : n * answerWidth ≤ length cells
+  pub places : length out ≡ mostRunning
+  pub laid : map chosen (answerRows n cells) ≡ map unitOf (take i out) ++ map chosen (drop i (answerRows n cells))
 
-units-of : (rows : List AnswerRow) → map unit (map chosen rows) ≡ map (λ (r : AnswerRow). r .unit) rows
+module _ (n : ℕ) (cells : List ℕ) (out : List Running) where
+  pub choosing-none : length out ≡ mostRunning → n ≤ mostRunning → n * answerWidth ≤ length cells → Choosing n cells out 0
+  choosing-none e h k = record { upto = omega arith; most = h; room = k; places = e; laid = refl }
+
+  module _ (i : ℕ) (c : Choosing n cells out i) where
+    pub choosing-next :
+        (r : Running) → i < n → unitOf r ≡ chosen (answerAt cells i) → Choosing n cells (set out i r) (i + 1)
+    choosing-next r h e =
+        record {
+          upto = omega arith;
+          most = c .most;
+          room = c .room;
+          places = length-set out i r ∙ c .places;
+          laid =
+              c .laid
+              ∙ rw (answer-next n cells i h, ← e, stored out i r (omega (arith, c .most, c .places)))
+              (sym (append-snoc (map unitOf (take i out)) (unitOf r) _));
+        }
+
+    pub choosing-over : n ≤ i → firstUnits n out ≡ map chosen (answerRows n cells)
+    choosing-over h =
+        let all : i ≡ n = omega (arith, c .upto) in
+        first-map n out (omega (arith, c .most, c .places))
+        ∙ sym (c .laid ∙ rw (drop-end i (answerRows n cells) (omega (arith, answer-length n cells)), all) (append-nil (map unitOf (take n out))))
+
+-- the chosen units' numbers are the rows' own
+pub chosen-units : (rows : List AnswerRow) → unitNumbers (map chosen rows) ≡ map (λ (r : AnswerRow). r .unit) rows
 unfolding chosen
-units-of [] = refl
-units-of (r ∷ rows) = ap (λ (us : List ℕ). r .unit ∷ us) (units-of rows)
+chosen-units [] = refl
+chosen-units (r ∷ rows) = ap (λ (us : List ℕ). r .unit ∷ us) (chosen-units rows)
 
-choices-units : (n : ℕ) (cells : List ℕ) → map unit (choices n cells) ≡ answerUnits n cells
-choices-units n cells = units-of (answerRows n cells)
-
-choices-rise :
-    (n : ℕ) (cells : List ℕ) (running : List RunningUnit) → Fits n cells running → RisingFrom 0 (map unit (choices n cells))
-choices-rise n cells running f = rw (choices-units n cells) (f .rising)
-
--- the running units, one after the other
+-- units, one after the other
 unit-here :
     (us : Units) (i : ℕ) → i < us .count → i < length (us .running) →
     drop i (unitsOf us) ≡ unitOf (getD (us .running) i unused) ∷ drop (i + 1) (unitsOf us)
@@ -79,16 +89,16 @@ rising-behind c cs (next h o) = o
 
 -- A turn, by what stands next among the choices and among the running units.
 module _ (cs rs : List RunningUnit) (i j : ℕ) where
-  -- no row is left
+  -- no chosen unit is left
   turn-unit-alone :
       (r : Running) → i < length rs → length cs ≤ j → j ≤ length cs → drop i rs ≡ unitOf r ∷ drop (i + 1) rs →
-      Turns cs rs i j (record { next = r; units = 1; rows = 0 })
+      Turns cs rs i j (record { next = r; running = 1; chosen = 0 })
   unfolding putAll
   turn-unit-alone r h k l f =
       let still : j + 0 ≡ j = omega arith in
       record {
-        units-upto = omega arith;
-        rows-upto = omega arith;
+        running-upto = omega arith;
+        chosen-upto = omega arith;
         goes-on = omega arith;
         merges = rw (still, drop-end j cs k, f);
       }
@@ -100,107 +110,108 @@ module _ (cs rs : List RunningUnit) (i j : ℕ) where
         rising-behind (unitOf c) (drop (j + 1) cs) (rw e at (from .1))
 
     -- no running unit is left
-    turn-row-alone :
-        length rs ≤ i → i ≤ length rs → Turns cs rs i j (record { next = c; units = 0; rows = 1 })
-    turn-row-alone k l =
+    turn-choice-alone :
+        length rs ≤ i → i ≤ length rs → Turns cs rs i j (record { next = c; running = 0; chosen = 1 })
+    turn-choice-alone k l =
         let still : i + 0 ≡ i = omega arith in
         record {
-          units-upto = omega arith;
-          rows-upto = omega arith;
+          running-upto = omega arith;
+          chosen-upto = omega arith;
           goes-on = omega arith;
           merges = rw (still, drop-end i rs k, e) (merge-alone (unitOf c) (drop (j + 1) cs) behind);
         }
 
     module _ (r : Running) (k : i < length rs) (f : drop i rs ≡ unitOf r ∷ drop (i + 1) rs) where
       -- the running unit comes first
-      turn-unit : r .unit < c .unit → Turns cs rs i j (record { next = r; units = 1; rows = 0 })
+      turn-unit : r .unit < c .unit → Turns cs rs i j (record { next = r; running = 1; chosen = 0 })
       turn-unit l =
           let still : j + 0 ≡ j = omega arith in
           record {
-            units-upto = omega arith;
-            rows-upto = omega arith;
+            running-upto = omega arith;
+            chosen-upto = omega arith;
             goes-on = omega arith;
             merges = rw (still, e, f) (merge-behind (unitOf c) (unitOf r) (drop (j + 1) cs) (drop (i + 1) rs) behind l);
           }
 
-      -- the row is the running unit's
-      turn-both : r .unit ≡ c .unit → Turns cs rs i j (record { next = c; units = 1; rows = 1 })
+      -- the chosen unit is the running one
+      turn-both : r .unit ≡ c .unit → Turns cs rs i j (record { next = c; running = 1; chosen = 1 })
       turn-both l =
           record {
-            units-upto = omega arith;
-            rows-upto = omega arith;
+            running-upto = omega arith;
+            chosen-upto = omega arith;
             goes-on = omega arith;
             merges = rw (e, f) (merge-at (unitOf c) (unitOf r) (drop (j + 1) cs) (drop (i + 1) rs) behind (sym l));
           }
 
-      -- the row comes first
-      turn-row : c .unit < r .unit → Turns cs rs i j (record { next = c; units = 0; rows = 1 })
-      turn-row l =
+      -- the chosen unit comes first
+      turn-choice : c .unit < r .unit → Turns cs rs i j (record { next = c; running = 0; chosen = 1 })
+      turn-choice l =
           let still : i + 0 ≡ i = omega arith in
           record {
-            units-upto = omega arith;
-            rows-upto = omega arith;
+            running-upto = omega arith;
+            chosen-upto = omega arith;
             goes-on = omega arith;
             merges =
                 rw (still, e, f) (merge-before (unitOf c) (unitOf r) (drop (j + 1) cs) (drop (i + 1) rs) behind l);
           }
 
--- The turns of running units and an answer's cells.
-module _ (us : Units) (n : ℕ) (cells : List ℕ) (i j : ℕ) (f : Fits n cells (unitsOf us)) where
+-- The turns of running and chosen units.
+module _ (us ch : Units) (i j : ℕ) (f : Fits (unitsOf ch) (unitsOf us)) where
   abbrev Turned : Turn → Type 0
-  Turned t = Turns (choices n cells) (unitsOf us) i j t
+  Turned t = Turns (unitsOf ch) (unitsOf us) i j t
 
   module _ (h : i < us .count) (places : us .count ≤ length (us .running)) where
-    pub unit-alone : j ≡ n → Turned (record { next = getD (us .running) i unused; units = 1; rows = 0 })
+    pub unit-alone : j ≡ ch .count → Turned (record { next = getD (us .running) i unused; running = 1; chosen = 0 })
     unit-alone k =
-        turn-unit-alone (choices n cells) (unitsOf us) i j (getD (us .running) i unused)
+        turn-unit-alone (unitsOf ch) (unitsOf us) i j (getD (us .running) i unused)
         (omega (arith, counted us))
-        (omega (arith, choices-length n cells))
-        (omega (arith, choices-length n cells))
+        (omega (arith, counted ch))
+        (omega (arith, counted ch))
         (unit-here us i h (omega arith))
 
-  module _ (c : Running) (e : unitOf c ≡ chosen (answerAt cells j)) (k : j < n) where
-    pub row-alone : i ≡ us .count → Turned (record { next = c; units = 0; rows = 1 })
-    row-alone h =
-        turn-row-alone (choices n cells) (unitsOf us) i j c
-        (choices-rise n cells (unitsOf us) f)
-        (omega (arith, choices-length n cells))
-        (row-here n cells c j e k)
+  module _ (k : j < ch .count) (rooms : ch .count ≤ length (ch .running)) where
+    pub choice-alone : i ≡ us .count → Turned (record { next = getD (ch .running) j unused; running = 0; chosen = 1 })
+    choice-alone h =
+        turn-choice-alone (unitsOf ch) (unitsOf us) i j (getD (ch .running) j unused)
+        (f .rising)
+        (omega (arith, counted ch))
+        (unit-here ch j k (omega arith))
         (omega (arith, counted us))
         (omega (arith, counted us))
 
     module _ (h : i < us .count) (places : us .count ≤ length (us .running)) where
       both-there :
-          (t : Turn) → (RisingFrom 0 (map unit (choices n cells)) → j < length (choices n cells) →
-          drop j (choices n cells) ≡ unitOf c ∷ drop (j + 1) (choices n cells) → i < length (unitsOf us) →
+          (t : Turn) → (RisingFrom 0 (unitNumbers (unitsOf ch)) → j < length (unitsOf ch) →
+          drop j (unitsOf ch) ≡ unitOf (getD (ch .running) j unused) ∷ drop (j + 1) (unitsOf ch) → i < length (unitsOf us) →
           drop i (unitsOf us) ≡ unitOf (getD (us .running) i unused) ∷ drop (i + 1) (unitsOf us) →
           Turned t) → Turned t
       both-there t turn =
           turn
-          (choices-rise n cells (unitsOf us) f)
-          (omega (arith, choices-length n cells))
-          (row-here n cells c j e k)
+          (f .rising)
+          (omega (arith, counted ch))
+          (unit-here ch j k (omega arith))
           (omega (arith, counted us))
           (unit-here us i h (omega arith))
 
       pub unit-first :
-          getD (us .running) i unused .unit < c .unit →
-          Turned (record { next = getD (us .running) i unused; units = 1; rows = 0 })
-      unit-first l =
-          both-there _ (λ o p q r s. turn-unit (choices n cells) (unitsOf us) i j c o p q (getD (us .running) i unused) r s l)
+          getD (us .running) i unused .unit < getD (ch .running) j unused .unit →
+          Turned (record { next = getD (us .running) i unused; running = 1; chosen = 0 })
+      unit-first l = both-there _ (λ o p q r s. turn-unit (unitsOf ch) (unitsOf us) i j _ o p q _ r s l)
 
-      pub both : getD (us .running) i unused .unit ≡ c .unit → Turned (record { next = c; units = 1; rows = 1 })
-      both l =
-          both-there _ (λ o p q r s. turn-both (choices n cells) (unitsOf us) i j c o p q (getD (us .running) i unused) r s l)
+      pub both :
+          getD (us .running) i unused .unit ≡ getD (ch .running) j unused .unit →
+          Turned (record { next = getD (ch .running) j unused; running = 1; chosen = 1 })
+      both l = both-there _ (λ o p q r s. turn-both (unitsOf ch) (unitsOf us) i j _ o p q _ r s l)
 
-      pub row-first : c .unit < getD (us .running) i unused .unit → Turned (record { next = c; units = 0; rows = 1 })
-      row-first l =
-          both-there _ (λ o p q r s. turn-row (choices n cells) (unitsOf us) i j c o p q (getD (us .running) i unused) r s l)
+      pub choice-first :
+          getD (ch .running) j unused .unit < getD (us .running) i unused .unit →
+          Turned (record { next = getD (ch .running) j unused; running = 0; chosen = 1 })
+      choice-first l = both-there _ (λ o p q r s. turn-choice (unitsOf ch) (unitsOf us) i j _ o p q _ r s l)
 
--- The merge: the first k places hold what i running units and j rows give, and the rest is still to be merged.
+-- The merge: the first k places hold what i running and j chosen units give, and the rest is still to be merged.
 pub record Merging (cs rs : List RunningUnit) (out : List Running) (k i j : ℕ) : Type 0 where
-  pub units-upto : i ≤ length rs
-  pub rows-upto : j ≤ length cs
+  pub running-upto : i ≤ length rs
+  pub chosen-upto : j ≤ length cs
   pub places : length out ≡ mostRunning
   pub few : length (putAll cs rs) ≤ mostRunning
   pub inside : k ≤ mostRunning
@@ -211,8 +222,8 @@ pub merging-none :
     Merging cs rs out 0 0 0
 merging-none cs rs out e h =
     record {
-      units-upto = omega arith;
-      rows-upto = omega arith;
+      running-upto = omega arith;
+      chosen-upto = omega arith;
       places = e;
       few = h;
       inside = omega arith;
@@ -228,23 +239,18 @@ module _ (cs rs : List RunningUnit) (out : List Running) (k i j : ℕ) (m : Merg
     pub merging-room : k < mostRunning
     merging-room =
         let whole = ap length (rw (g .merges) at (m .merged)) in
-        omega (arith, whole, front, m .few, length-append (map unitOf (take k out)) (unitOf (t .next) ∷ putAll (drop (j + t .rows) cs) (drop (i + t .units) rs)))
+        omega (arith, whole, front, m .few, length-append (map unitOf (take k out)) (unitOf (t .next) ∷ putAll (drop (j + t .chosen) cs) (drop (i + t .running) rs)))
 
-    pub merging-next : Merging cs rs (set out k (t .next)) (k + 1) (i + t .units) (j + t .rows)
+    pub merging-next : Merging cs rs (set out k (t .next)) (k + 1) (i + t .running) (j + t .chosen)
     merging-next =
         record {
-          units-upto = g .units-upto;
-          rows-upto = g .rows-upto;
+          running-upto = g .running-upto;
+          chosen-upto = g .chosen-upto;
           places = length-set out k (t .next) ∙ m .places;
           few = m .few;
           inside = omega (arith, merging-room);
-          merged = m .merged ∙ rw (g .merges, stored) (sym (append-snoc (map unitOf (take k out)) (unitOf (t .next)) _));
+          merged = m .merged ∙ rw (g .merges, stored out k (t .next) (omega (arith, merging-room, m .places))) (sym (append-snoc (map unitOf (take k out)) (unitOf (t .next)) _));
         }
-      where
-        stored : map unitOf (take (k + 1) (set out k (t .next))) ≡ map unitOf (take k out) ++ (unitOf (t .next) ∷ [])
-        stored =
-            rw (add-one, take-suc-set out k (t .next) (omega (arith, merging-room, m .places)))
-            (map-append unitOf (take k out) (t .next ∷ []))
 
   pub merging-over : length rs ≤ i → length cs ≤ j → firstUnits k out ≡ putAll cs rs
   unfolding putAll
@@ -267,12 +273,5 @@ none-left i count j n e =
     (ltb-false i count (or-fst (ltb i count) (ltb j n) e), ltb-false j n (or-snd (ltb i count) (ltb j n) e))
 
 -- as many places as a day has are enough
-pub fits-few :
-    (n : ℕ) (cells : List ℕ) (running : List RunningUnit) → unitsFormed running ≡ true → Fits n cells running →
-    length (putAll (choices n cells) running) ≤ mostRunning
-fits-few n cells running e f =
-    rw (
-      put-all-length (choices n cells) running (choices-rise n cells running f) (order-rising (ordered running e)),
-      choices-units n cells,
-    )
-    (f .few)
+pub fits-few : (cs rs : List RunningUnit) → unitsFormed rs ≡ true → Fits cs rs → length (putAll cs rs) ≤ mostRunning
+fits-few cs rs e f = rw (put-all-length cs rs (f .rising) (order-rising (ordered rs e))) (f .few)

@@ -1,19 +1,30 @@
 -- Laws of well-formed units, in the order in which the code asks. Assumes nothing.
-use Prim.Native.Nat.{ℕ, _≤_, _<_}
-use mathlib.Core.Path.{_≡_, refl}
-use mathlib.Core.Bool.{true, false}
+use Prim.Native.Nat.{ℕ, _+_, _≤_, _<_}
+use mathlib.Core.Path.{_≡_, refl, _∙_}
+use mathlib.Core.Bool.{Bool, true, false}
 use mathlib.Core.List.{List, [], _∷_}
 use native.Mathlib.Omega.{arith}
 use lib.Dec.{leb}
 use lib.ListN.{length}
 use borrow.Author.Tests.{lt-ltb, le-ltb, leb-true, le-leb, lt-leb}
 use Rattle.base.proofs.Tests.{and-fst, and-snd}
-use Rattle.judge.specs.Day.{RunningUnit, mostRunning, unitInRange, risingInRange}
+use Rattle.tables.specs.Ranges.{inColumn}
+use Rattle.tables.specs.Table.{firstColumn, columnAt}
+use Rattle.tables.specs.declared.files.File.the-variants.{Schedules}
+use Rattle.judge.specs.Day.{RunningUnit, mostRunning, unitColumn, scheduleColumn, unitInRange, risingInRange}
 use Rattle.judge.proofs.DayLaws.{InOrder, in-order}
 use Rattle.running.specs.Forming.{unitsFormed}
 use Rattle.running.specs.View.{unitsOf}
 use Rattle.running.specs.declared.units.Units.{Units}
 use Rattle.running.proofs.ViewLaws.{counted}
+
+-- a unit's numbers, each by what was answered of its column
+module _ (first x : ℕ) (r : Bool) (e : first ≡ firstColumn Schedules) where
+  pub range-unit : r ≡ inColumn (columnAt (first + 0)) x → r ≡ inColumn unitColumn x
+  range-unit f = f ∙ rw e
+
+  pub range-schedule : r ≡ inColumn (columnAt (first + 1)) x → r ≡ inColumn scheduleColumn x
+  range-schedule f = f ∙ rw e
 
 -- the units one after the other: one that does not rise, one out of range, one more, none
 module _ (b : ℕ) (r : RunningUnit) (rs : List RunningUnit) where

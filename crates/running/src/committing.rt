@@ -1,103 +1,121 @@
 // Committing an accepted study: each unit of its answer runs on the chosen schedule, and every other
-// running unit stays as it was. Both the answer's rows and the running units rise, so they are merged
-// in one pass. Assumes that the running units are well-formed and that what would run fits in a day.
+// running unit stays as it was. What the answer has running and what runs both rise, so they are
+// merged in one pass. Assumes that the running units are well-formed and that what would run fits in
+// a day.
 ghost use mathlib.Core.Path.{_≡_};
 ghost use mathlib.Core.Bool.{true};
+ghost use mathlib.Core.List.{map};
 ghost use Prim.Native.Nat.{_+_, _*_, _≤_, _<_};
 ghost use lib.ListN.{length};
+ghost use Rattle.cells.specs.Views.{answerWidth, answerAt, answerRows};
 ghost use Rattle.judge.specs.Day.{mostRunning, putAll};
 ghost use Rattle.judge.specs.Study.{chosen as Study·chosen};
-ghost use Rattle.running.specs.Committing.{answerAt, choices, Fits, anyLeft, Turns};
+ghost use Rattle.running.specs.Committing.{Fits, anyLeft, Turns};
 ghost use Rattle.running.specs.Forming.{unitsFormed};
 ghost use Rattle.running.specs.View.{unitOf, unitsOf};
 use crate::units::Running;
 use crate::units::Units;
+use cells::answer::KIND;
+use cells::answer::SCHEDULE;
+use cells::answer::UNIT;
+use cells::answer::cell;
 use tables::kind_of;
 
-// The cells of an answer's row, and those of them that a day keeps.
-const WIDTH: usize = 7;
-
-const UNIT: usize = 0;
-
-const SCHEDULE: usize = 4;
-
-const KIND: usize = 5;
-
-// The unit that is next, and how many running units and how many rows it uses up.
+// The unit that is next, and how many running and how many chosen units it uses up.
 struct Turn {
     next: Running,
-    units: usize,
-    rows: usize,
+    running: usize,
+    chosen: usize,
 }
 
 impl Units {
-    // The running units once a study is accepted with these `n` rows as its answer.
-    pub fn merged(self, rows: &[u64], n: usize) -> Units
+    // What the first `n` rows of an answer have running.
+    pub fn chosen(rows: &[u64], n: usize) -> Units
+        requires { ⌜ n ≤ mostRunning ⌝ }
+        requires { ⌜ n * answerWidth ≤ length (now rows) ⌝ }
+        ensures { λ r. ⌜ unitsOf r ≡ map Study·chosen (answerRows n (now (rows .entry))) ⌝ }
+    {
+        let none = Units::none();
+        let mut running = none.running;
+        let mut i = 0;
+        while i < n {
+            let r = chosen_at(rows, i);
+            running[i] = r;
+            i += 1;
+        }
+        Units { count: n, running }
+    }
+
+    // These units once a study is accepted that has chosen those.
+    pub fn merged(self, chosen: Units) -> Units
         requires { ⌜ unitsFormed (unitsOf self) ≡ true ⌝ }
-        requires { ⌜ Fits n (now rows) (unitsOf self) ⌝ }
-        ensures { λ r. ⌜ unitsOf r ≡ putAll (choices n (now (rows .entry))) (unitsOf self) ⌝ }
+        requires { ⌜ chosen .count ≤ mostRunning ⌝ }
+        requires { ⌜ Fits (unitsOf chosen) (unitsOf self) ⌝ }
+        ensures { λ r. ⌜ unitsOf r ≡ putAll (unitsOf chosen) (unitsOf self) ⌝ }
     {
         let mut running = self.running;
         let mut count = 0;
         let mut i = 0;
         let mut j = 0;
-        while is_left(i, self.count, j, n) {
-            let turn = self.turn(rows, n, i, j);
+        while is_left(i, self.count, j, chosen.count) {
+            let turn = self.turn(chosen, i, j);
             let r = turn.next;
             running[count] = r;
             count += 1;
-            i += turn.units;
-            j += turn.rows;
+            i += turn.running;
+            j += turn.chosen;
         }
         Units { count, running }
     }
 
-    // The next unit where the first `i` running units and the first `j` rows are used up.
-    fn turn(self, rows: &[u64], n: usize, i: usize, j: usize) -> Turn
+    // The next unit where the first `i` running and the first `j` chosen units are used up.
+    fn turn(self, chosen: Units, i: usize, j: usize) -> Turn
         requires { ⌜ self .count ≤ mostRunning ⌝ }
-        requires { ⌜ Fits n (now rows) (unitsOf self) ⌝ }
-        requires { ⌜ (i ≤ self .count) × (j ≤ n) × (i + j < self .count + n) ⌝ }
-        ensures { λ t. ⌜ Turns (choices n (now (rows .entry))) (unitsOf self) i j t ⌝ }
+        requires { ⌜ chosen .count ≤ mostRunning ⌝ }
+        requires { ⌜ Fits (unitsOf chosen) (unitsOf self) ⌝ }
+        requires { ⌜ (i ≤ self .count) × (j ≤ chosen .count) × (i + j < self .count + chosen .count) ⌝ }
+        ensures { λ t. ⌜ Turns (unitsOf chosen) (unitsOf self) i j t ⌝ }
     {
         if i == self.count {
+            let c = chosen.running[j];
             return Turn {
-                next: chosen(rows, j),
-                units: 0,
-                rows: 1,
+                next: c,
+                running: 0,
+                chosen: 1,
             };
         }
         let r = self.running[i];
-        if j == n {
+        if j == chosen.count {
             return Turn {
                 next: r,
-                units: 1,
-                rows: 0,
+                running: 1,
+                chosen: 0,
             };
         }
-        let c = chosen(rows, j);
+        let c = chosen.running[j];
         if r.unit < c.unit {
             return Turn {
                 next: r,
-                units: 1,
-                rows: 0,
+                running: 1,
+                chosen: 0,
             };
         }
         if r.unit == c.unit {
             return Turn {
                 next: c,
-                units: 1,
-                rows: 1,
+                running: 1,
+                chosen: 1,
             };
         }
         Turn {
             next: c,
-            units: 0,
-            rows: 1,
+            running: 0,
+            chosen: 1,
         }
     }
 }
 
-// Whether running units or rows are left.
+// Whether running or chosen units are left.
 fn is_left(i: usize, count: usize, j: usize, n: usize) -> bool
     ensures { λ r. ⌜ r ≡ anyLeft i count j n ⌝ }
 {
@@ -107,15 +125,14 @@ fn is_left(i: usize, count: usize, j: usize, n: usize) -> bool
     j < n
 }
 
-// What the row at `j` has running.
-fn chosen(rows: &[u64], j: usize) -> Running
-    requires { ⌜ j * 7 + 7 ≤ length (now rows) ⌝ }
-    ensures { λ r. ⌜ unitOf r ≡ Study·chosen (answerAt (now (rows .entry)) j) ⌝ }
+// What the row at a place has running.
+fn chosen_at(rows: &[u64], row: usize) -> Running
+    requires { ⌜ row * answerWidth + answerWidth ≤ length (now rows) ⌝ }
+    ensures { λ r. ⌜ unitOf r ≡ Study·chosen (answerAt (now (rows .entry)) row) ⌝ }
 {
-    let at = j * WIDTH;
     Running {
-        unit: rows[at + UNIT],
-        schedule: rows[at + SCHEDULE],
-        kind: kind_of(rows[at + KIND]),
+        unit: cell(rows, row, UNIT),
+        schedule: cell(rows, row, SCHEDULE),
+        kind: kind_of(cell(rows, row, KIND)),
     }
 }

@@ -5,15 +5,11 @@ ghost use Rattle.running.specs.Forming.{unitsFormed};
 ghost use Rattle.running.specs.View.{unitOf, unitsOf};
 use crate::units::Running;
 use crate::units::Units;
-
-// The permitted ranges of a unit's numbers.
-const FIRST_UNIT: u64 = 1;
-
-const LAST_UNIT: u64 = 9999;
-
-const FIRST_SCHEDULE: u64 = 1;
-
-const LAST_SCHEDULE: u64 = 99;
+use cells::schedule::SCHEDULE;
+use cells::schedule::UNIT;
+use tables::File;
+use tables::first_column;
+use tables::in_column;
 
 impl Units {
     // Whether the units are well-formed: no more than there are places, in range and strictly rising.
@@ -42,17 +38,13 @@ impl Units {
     }
 }
 
+// A unit's numbers have the ranges of their columns in the schedules file.
 fn unit_in_range(r: Running) -> bool
     ensures { λ t. ⌜ t ≡ unitInRange (unitOf r) ⌝ }
 {
-    if r.unit < FIRST_UNIT {
-        return false;
+    let first = first_column(File::Schedules);
+    if in_column(first + UNIT, r.unit) {
+        return in_column(first + SCHEDULE, r.schedule);
     }
-    if LAST_UNIT < r.unit {
-        return false;
-    }
-    if r.schedule < FIRST_SCHEDULE {
-        return false;
-    }
-    r.schedule <= LAST_SCHEDULE
+    false
 }

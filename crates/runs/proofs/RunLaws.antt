@@ -14,9 +14,10 @@ use Rattle.base.specs.Search.{any, those, firstAtOdds, All}
 use Rattle.base.proofs.Elements.{all-mem, any-mem, none-mem, mem-none, all-those, any-agree, any-same}
 use Rattle.base.proofs.Searches.{all-drop, all-head}
 use Rattle.base.proofs.Tests.{either, eq-or-ne, and-fst, and-snd, or-fst, or-snd}
-use Rattle.tables.specs.Hours.{runEnd}
+use Rattle.hours.specs.Hours.{runEnd}
 use Rattle.tables.specs.Rows.{ScheduleRow, scheduleRows}
-use Rattle.tables.proofs.RowViews.{scheduleAt, schedule-next}
+use Rattle.cells.specs.Views.{scheduleAt}
+use Rattle.cells.proofs.RowViews.{schedule-next}
 use Rattle.links.specs.Links.{mostLinked, Linked, Along, scheduleKeys, scheduleKey}
 use Rattle.runs.specs.Ranges.{Checked}
 use Rattle.runs.specs.Steps.{lacks, atHour, hasHour, goesOn, runs, stops}

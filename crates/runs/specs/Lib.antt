@@ -1,4 +1,3 @@
-pub mod Checks
 pub mod Ranges
 pub mod Runs
 pub mod Steps

@@ -4,7 +4,7 @@ use mathlib.Core.Path.{_≡_}
 use mathlib.Core.List.{List}
 use mathlib.Core.Option.{none}
 use Rattle.base.specs.Search.{All}
-use Rattle.tables.specs.Hours.{lastHour}
+use Rattle.hours.specs.Hours.{lastHour}
 use Rattle.tables.specs.Ranges.{PermittedSchedule}
 use Rattle.tables.specs.Rows.{ScheduleRow}
 use Rattle.schedules.specs.Schedules.{schedulesAtOdds}

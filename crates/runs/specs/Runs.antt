@@ -6,7 +6,7 @@ use mathlib.Core.List.{List}
 use mathlib.Core.Option.{Option}
 use lib.Dec.{eqb}
 use Rattle.base.specs.Search.{any, find}
-use Rattle.tables.specs.Hours.{runEnd}
+use Rattle.hours.specs.Hours.{runEnd}
 use Rattle.tables.specs.Rows.{ScheduleRow}
 use Rattle.schedules.specs.Schedules.{sameSchedule, own}
 

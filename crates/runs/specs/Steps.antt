@@ -5,7 +5,7 @@ use mathlib.Core.Bool.{Bool, not, _&&_, _||_}
 use mathlib.Core.List.{List}
 use lib.Dec.{eqb, leb, ltb}
 use Rattle.base.specs.Search.{any}
-use Rattle.tables.specs.Hours.{runEnd}
+use Rattle.hours.specs.Hours.{runEnd}
 use Rattle.tables.specs.Rows.{ScheduleRow}
 use Rattle.schedules.specs.Schedules.{sameSchedule}
 use Rattle.runs.specs.Runs.{hasRun}

@@ -1,7 +1,4 @@
-// What schedule rows must be to each other and to the units of supply, rule by rule: refusals 6 to 9,
-// of which 9, a schedule's run, is decided here.
-mod checks;
+// The run that each schedule must have from the study hour on: refusal 9.
 mod runs;
 
-pub use checks::ScheduleCheck;
-pub use checks::check_schedules;
+pub use runs::lacking;

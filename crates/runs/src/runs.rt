@@ -5,41 +5,40 @@
 ghost use mathlib.Core.Path.{_≡_};
 ghost use Prim.Native.Nat.{_+_, _*_, _≤_, _<_};
 ghost use lib.ListN.{length, take};
-ghost use Rattle.tables.specs.Hours.{lastHour};
+ghost use Rattle.hours.specs.Hours.{lastHour};
 ghost use Rattle.tables.specs.Ranges.{PermittedSchedule};
 ghost use Rattle.tables.specs.Rows.{scheduleRows};
-ghost use Rattle.tables.proofs.RowViews.{scheduleAt};
+ghost use Rattle.cells.specs.Views.{scheduleAt, scheduleWidth};
 ghost use Rattle.schedules.specs.Answers.{lowestOf};
-ghost use Rattle.links.specs.Links.{Linked, unitKeys, scheduleKeys, unitKey, scheduleKey};
+ghost use Rattle.links.specs.Links.{RowsLinked, Linked, scheduleKeys, scheduleKey};
 ghost use Rattle.runs.specs.Ranges.{Checked};
 ghost use Rattle.runs.specs.Steps.{atHour, hasHour, lacks as Runs·lacks, runs as Runs·runs, stops as Runs·stops};
 ghost use Rattle.schedules.specs.Schedules.{own};
 ghost use Rattle.runs.specs.Runs.{lacking as Schedules·lacking};
+use cells::schedule::HOUR;
+use cells::schedule::MINRUN;
+use cells::schedule::SCHEDULE;
+use cells::schedule::UNIT;
+use cells::schedule::cell;
+use hours::run_end;
 use links::ROWS;
+use links::UNIT_LINKS;
+use links::link_at;
 use links::schedule_key;
 use links::unit_key;
-use schedules::HOUR;
 use schedules::Lowest;
-use schedules::MINRUN;
-use schedules::SCHEDULE;
-use schedules::UNIT;
-use schedules::cell;
-
-const LAST_HOUR: u64 = 23;
 
 // The lowest of the first `count` units with a schedule that lacks an hour, where the units rise.
 pub fn lacking(
     cells: &[u64],
     n: usize,
-    by_unit: &[usize],
-    by_schedule: &[usize],
+    links: &[u16],
     units: &[u64],
     count: usize,
     hour: u64,
 ) -> Lowest
-    requires { ⌜ n * 9 ≤ length (now cells) ⌝ }
-    requires { ⌜ Linked (unitKey (now cells)) unitKeys n (now «by_unit») ⌝ }
-    requires { ⌜ Linked (scheduleKey (now cells)) scheduleKeys n (now «by_schedule») ⌝ }
+    requires { ⌜ n * scheduleWidth ≤ length (now cells) ⌝ }
+    requires { ⌜ RowsLinked (now cells) n (now links) ⌝ }
     requires { ⌜ count ≤ length (now units) ⌝ }
     requires { ⌜ Checked hour (scheduleRows n (now cells)) ⌝ }
     ensures { λ r. ⌜ r ≡ lowestOf (Schedules·lacking hour (take count (now (units .entry))) (scheduleRows n (now (cells .entry)))) ⌝ }
@@ -47,7 +46,7 @@ pub fn lacking(
     let mut i = 0;
     while i < count {
         let unit = units[i];
-        if lacks(cells, n, by_unit, by_schedule, unit, hour) {
+        if lacks(cells, n, links, unit, hour) {
             return Lowest::Number(unit);
         }
         i += 1;
@@ -56,35 +55,27 @@ pub fn lacking(
 }
 
 // Whether a schedule of the unit lacks an hour.
-fn lacks(
-    cells: &[u64],
-    n: usize,
-    by_unit: &[usize],
-    by_schedule: &[usize],
-    unit: u64,
-    hour: u64,
-) -> bool
-    requires { ⌜ n * 9 ≤ length (now cells) ⌝ }
-    requires { ⌜ Linked (unitKey (now cells)) unitKeys n (now «by_unit») ⌝ }
-    requires { ⌜ Linked (scheduleKey (now cells)) scheduleKeys n (now «by_schedule») ⌝ }
+fn lacks(cells: &[u64], n: usize, links: &[u16], unit: u64, hour: u64) -> bool
+    requires { ⌜ n * scheduleWidth ≤ length (now cells) ⌝ }
+    requires { ⌜ RowsLinked (now cells) n (now links) ⌝ }
     requires { ⌜ Checked hour (scheduleRows n (now cells)) ⌝ }
     ensures { λ r. ⌜ r ≡ Runs·lacks hour (own unit (scheduleRows n (now (cells .entry)))) ⌝ }
 {
-    let mut left = by_unit[ROWS + unit_key(unit)];
+    let mut left = link_at(links, ROWS + unit_key(unit));
     while 0 < left {
         let k = left - 1;
-        if stops(cells, n, by_schedule, k, unit, hour) {
+        if stops(cells, n, links, k, unit, hour) {
             return true;
         }
-        left = by_unit[k];
+        left = link_at(links, k);
     }
     false
 }
 
 // Whether row `k` is the unit's, and its schedule's run stops at it or never starts.
-fn stops(cells: &[u64], n: usize, by_schedule: &[usize], k: usize, unit: u64, hour: u64) -> bool
-    requires { ⌜ n * 9 ≤ length (now cells) ⌝ }
-    requires { ⌜ Linked (scheduleKey (now cells)) scheduleKeys n (now «by_schedule») ⌝ }
+fn stops(cells: &[u64], n: usize, links: &[u16], k: usize, unit: u64, hour: u64) -> bool
+    requires { ⌜ n * scheduleWidth ≤ length (now cells) ⌝ }
+    requires { ⌜ RowsLinked (now cells) n (now links) ⌝ }
     requires { ⌜ k < n ⌝ }
     requires { ⌜ hour ≤ lastHour ⌝ }
     requires { ⌜ PermittedSchedule (scheduleAt (now cells) k) ⌝ }
@@ -93,12 +84,12 @@ fn stops(cells: &[u64], n: usize, by_schedule: &[usize], k: usize, unit: u64, ho
     if cell(cells, k, UNIT) != unit {
         return false;
     }
-    !runs(cells, n, by_schedule, k, hour)
+    !runs(cells, n, &links[UNIT_LINKS..], k, hour)
 }
 
 // Whether the schedule of row `k` starts at the study hour, and goes on behind row `k` if it has to.
-fn runs(cells: &[u64], n: usize, by_schedule: &[usize], k: usize, hour: u64) -> bool
-    requires { ⌜ n * 9 ≤ length (now cells) ⌝ }
+fn runs(cells: &[u64], n: usize, by_schedule: &[u16], k: usize, hour: u64) -> bool
+    requires { ⌜ n * scheduleWidth ≤ length (now cells) ⌝ }
     requires { ⌜ Linked (scheduleKey (now cells)) scheduleKeys n (now «by_schedule») ⌝ }
     requires { ⌜ k < n ⌝ }
     requires { ⌜ hour ≤ lastHour ⌝ }
@@ -112,38 +103,35 @@ fn runs(cells: &[u64], n: usize, by_schedule: &[usize], k: usize, hour: u64) -> 
     if at < hour {
         return true;
     }
-    if LAST_HOUR <= at {
-        return true;
-    }
-    if hour + cell(cells, k, MINRUN) <= at + 1 {
+    if run_end(hour, cell(cells, k, MINRUN)) <= at {
         return true;
     }
     has_hour(cells, n, by_schedule, k, at + 1)
 }
 
 // Whether the schedule of row `k` has a row for an hour.
-fn has_hour(cells: &[u64], n: usize, by_schedule: &[usize], k: usize, hour: u64) -> bool
-    requires { ⌜ n * 9 ≤ length (now cells) ⌝ }
+fn has_hour(cells: &[u64], n: usize, by_schedule: &[u16], k: usize, hour: u64) -> bool
+    requires { ⌜ n * scheduleWidth ≤ length (now cells) ⌝ }
     requires { ⌜ Linked (scheduleKey (now cells)) scheduleKeys n (now «by_schedule») ⌝ }
     requires { ⌜ k < n ⌝ }
     ensures { λ r. ⌜ r ≡ hasHour (scheduleAt (now (cells .entry)) k) hour (scheduleRows n (now (cells .entry))) ⌝ }
 {
     let key = schedule_key(cell(cells, k, UNIT), cell(cells, k, SCHEDULE));
-    let mut left = by_schedule[ROWS + key];
+    let mut left = link_at(by_schedule, ROWS + key);
     while 0 < left {
         let j = left - 1;
         if is_at(cells, k, j, hour) {
             return true;
         }
-        left = by_schedule[j];
+        left = link_at(by_schedule, j);
     }
     false
 }
 
 // Whether row `j` is of the schedule of row `k`, and for an hour.
 fn is_at(cells: &[u64], k: usize, j: usize, hour: u64) -> bool
-    requires { ⌜ k * 9 + 9 ≤ length (now cells) ⌝ }
-    requires { ⌜ j * 9 + 9 ≤ length (now cells) ⌝ }
+    requires { ⌜ k * scheduleWidth + scheduleWidth ≤ length (now cells) ⌝ }
+    requires { ⌜ j * scheduleWidth + scheduleWidth ≤ length (now cells) ⌝ }
     ensures { λ r. ⌜ r ≡ atHour (scheduleAt (now (cells .entry)) k) hour (scheduleAt (now (cells .entry)) j) ⌝ }
 {
     if cell(cells, k, UNIT) != cell(cells, j, UNIT) {

@@ -15,7 +15,8 @@ use Rattle.base.specs.Search.{any, firstAtOdds}
 use Rattle.base.proofs.Tests.{eq-or-ne, false-true}
 use Rattle.tables.specs.Rows.{ScheduleRow, scheduleRows}
 use Rattle.tables.specs.Table.{M}
-use Rattle.tables.proofs.RowViews.{scheduleAt, schedule-next}
+use Rattle.cells.specs.Views.{scheduleAt}
+use Rattle.cells.proofs.RowViews.{schedule-next}
 use Rattle.schedules.specs.Answers.{earlier, oddWith, alike, bothMarket}
 use Rattle.links.specs.Links.{LinkedTo, Along, unitKey, scheduleKey}
 use Rattle.schedules.specs.Schedules.{sameSchedule, unlike, repeats, secondM, scheduleOdds, schedulesAtOdds}

@@ -1,5 +1,5 @@
 -- Laws of the searches over schedule rows, one for each step of a loop, over plain lists. Assumes nothing.
-use Prim.Native.Nat.{ℕ, suc, _+_, _*_, _≤_, _<_}
+use Prim.Native.Nat.{ℕ, suc, _+_, _≤_, _<_}
 use mathlib.Core.Path.{_≡_, refl, sym, _∙_}
 use mathlib.Core.Logic.{⊎-elim}
 use mathlib.Core.Bool.{Bool, true, false, not}
@@ -17,7 +17,8 @@ use Rattle.base.proofs.Lists.{drop-next, drop-end}
 use Rattle.base.proofs.Searches.{first-none, first-here, first-later}
 use Rattle.base.proofs.Tests.{eq-or-ne}
 use Rattle.tables.specs.Rows.{ScheduleRow, scheduleRows}
-use Rattle.tables.proofs.RowViews.{scheduleAt, schedule-next, schedule-length}
+use Rattle.cells.specs.Views.{scheduleAt}
+use Rattle.cells.proofs.RowViews.{schedule-next, schedule-length}
 use Rattle.schedules.specs.Answers.{lowestOf, KnownBefore}
 use Rattle.schedules.specs.Schedules.{strange}
 use Rattle.schedules.specs.declared.rows.Lowest.the-variants.{Number, Nothing}
@@ -80,7 +81,7 @@ module _ (n : ℕ) (cells us : List ℕ) where
   known-none = record { upto = omega arith; passed = λ (j : ℕ) (h : j < 0). absurd (omega arith); rest = refl }
 
   -- t says whether the next row's unit is known
-  module _ (k : ℕ) (t : Bool) (l : Known n cells us k) (h : k < n) (said : t ≡ among (getD cells (k * 9 + 0) 0) us) where
+  module _ (k : ℕ) (t : Bool) (l : Known n cells us k) (h : k < n) (said : t ≡ among (scheduleAt cells k .unit) us) where
     pub known-here : (x : ℕ) → not t ≡ true → x ≡ k + 1 → x ≡ Option·getD (strange us (scheduleRows n cells)) 0
     known-here x e named =
         let strange-row : stranger (scheduleAt cells k) ≡ true = rw (← said) e in

@@ -1,16 +1,15 @@
 -- What the searches over schedule rows answer and go by. Assumes nothing.
-use Prim.Native.Nat.{ℕ, zero, suc, _+_, _*_, _<_}
+use Prim.Native.Nat.{ℕ, zero, suc, _<_}
 use mathlib.Core.Path.{_≡_}
 use mathlib.Core.Bool.{Bool, true, _&&_}
 use mathlib.Core.List.{List, [], _∷_}
 use mathlib.Core.Option.{Option, none, some}
 use lib.Dec.{eqb}
-use lib.ListN.{getD}
 use Rattle.base.specs.Rising.{among}
 use Rattle.base.specs.Search.{any}
 use Rattle.tables.specs.Rows.{ScheduleRow}
 use Rattle.tables.specs.Table.{M}
-use Rattle.tables.proofs.RowViews.{scheduleAt}
+use Rattle.cells.specs.Views.{scheduleAt}
 use Rattle.schedules.specs.Schedules.{scheduleOdds}
 use Rattle.schedules.specs.declared.rows.Lowest.{Lowest}
 use Rattle.schedules.specs.declared.rows.Lowest.the-variants.{Number, Nothing}
@@ -46,4 +45,4 @@ hasRow u rs = any (isOf u) rs
 
 -- the units of the rows before row k are among some
 abbrev pub KnownBefore : List ℕ → List ℕ → ℕ → Type 0
-KnownBefore us cells k = (j : ℕ) → j < k → among (getD cells (j * 9 + 0) 0) us ≡ true
+KnownBefore us cells k = (j : ℕ) → j < k → among (scheduleAt cells j .unit) us ≡ true

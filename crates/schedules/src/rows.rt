@@ -3,30 +3,19 @@
 ghost use mathlib.Core.Path.{_≡_};
 ghost use mathlib.Core.Option.{Option·getD};
 ghost use Prim.Native.Nat.{_+_, _*_, _≤_, _<_};
-ghost use lib.ListN.{length, getD, take};
+ghost use lib.ListN.{length, take};
 ghost use Rattle.base.specs.Rising.{among};
 ghost use Rattle.tables.specs.Rows.{scheduleRows};
+ghost use Rattle.cells.specs.Views.{scheduleAt, scheduleWidth};
 ghost use Rattle.schedules.specs.Answers.{lowestOf, hasRow, KnownBefore};
-ghost use Rattle.links.specs.Links.{Linked, LinkedTo, unitKeys, unitKey};
+ghost use Rattle.links.specs.Links.{RowsLinked, Linked, LinkedTo, unitKeys, unitKey};
 ghost use Rattle.schedules.specs.Schedules.{strange as Schedules·strange, unscheduled as Schedules·unscheduled};
+use cells::schedule::UNIT;
+use cells::schedule::cell;
 use links::ROWS;
+use links::link_at;
 use links::unit_key;
-use supply::contains;
-
-// The cells of a row, and where in it the columns stand.
-pub const WIDTH: usize = 9;
-
-pub const UNIT: usize = 0;
-
-pub const SCHEDULE: usize = 1;
-
-pub const KIND: usize = 2;
-
-pub const HOUR: usize = 3;
-
-pub const STARTUP: usize = 7;
-
-pub const MINRUN: usize = 8;
+use numbers::contains;
 
 // The lowest unit at fault, if there is one.
 pub enum Lowest {
@@ -36,15 +25,15 @@ pub enum Lowest {
 
 // 7: the first row of a unit that is not among the first `count` units, counted from 1; 0 where
 // there is none.
-pub fn strange(cells: &[u64], n: usize, by_unit: &[usize], units: &[u64], count: usize) -> usize
-    requires { ⌜ n * 9 ≤ length (now cells) ⌝ }
-    requires { ⌜ Linked (unitKey (now cells)) unitKeys n (now «by_unit») ⌝ }
+pub fn strange(cells: &[u64], n: usize, links: &[u16], units: &[u64], count: usize) -> usize
+    requires { ⌜ n * scheduleWidth ≤ length (now cells) ⌝ }
+    requires { ⌜ RowsLinked (now cells) n (now links) ⌝ }
     requires { ⌜ count ≤ length (now units) ⌝ }
     ensures { λ r. ⌜ r ≡ Option·getD (Schedules·strange (take count (now (units .entry))) (scheduleRows n (now (cells .entry)))) 0 ⌝ }
 {
     let mut k = 0;
     while k < n {
-        if !is_known(cells, k, by_unit, units, count) {
+        if !is_known(cells, k, links, units, count) {
             return k + 1;
         }
         k += 1;
@@ -54,15 +43,15 @@ pub fn strange(cells: &[u64], n: usize, by_unit: &[usize], units: &[u64], count:
 
 // Whether the unit of row `k` is among the first `count` units, where those of the rows before it
 // are: so it is if the row is linked to one of its unit.
-fn is_known(cells: &[u64], k: usize, by_unit: &[usize], units: &[u64], count: usize) -> bool
-    requires { ⌜ k * 9 + 9 ≤ length (now cells) ⌝ }
-    requires { ⌜ LinkedTo (unitKey (now cells)) k (now «by_unit») ⌝ }
+fn is_known(cells: &[u64], k: usize, links: &[u16], units: &[u64], count: usize) -> bool
+    requires { ⌜ k * scheduleWidth + scheduleWidth ≤ length (now cells) ⌝ }
+    requires { ⌜ LinkedTo (unitKey (now cells)) k (now links) ⌝ }
     requires { ⌜ count ≤ length (now units) ⌝ }
     requires { ⌜ KnownBefore (take count (now units)) (now cells) k ⌝ }
-    ensures { λ r. ⌜ r ≡ among (getD (now (cells .entry)) (k * 9 + 0) 0) (take count (now (units .entry))) ⌝ }
+    ensures { λ r. ⌜ r ≡ among (scheduleAt (now (cells .entry)) k .unit) (take count (now (units .entry))) ⌝ }
 {
     let unit = cell(cells, k, UNIT);
-    let left = by_unit[k];
+    let left = link_at(links, k);
     if 0 < left {
         if cell(cells, left - 1, UNIT) == unit {
             return true;
@@ -72,22 +61,16 @@ fn is_known(cells: &[u64], k: usize, by_unit: &[usize], units: &[u64], count: us
 }
 
 // 8: the lowest of the first `count` units that has no row, where the units rise.
-pub fn unscheduled(
-    cells: &[u64],
-    n: usize,
-    by_unit: &[usize],
-    units: &[u64],
-    count: usize,
-) -> Lowest
-    requires { ⌜ n * 9 ≤ length (now cells) ⌝ }
-    requires { ⌜ Linked (unitKey (now cells)) unitKeys n (now «by_unit») ⌝ }
+pub fn unscheduled(cells: &[u64], n: usize, links: &[u16], units: &[u64], count: usize) -> Lowest
+    requires { ⌜ n * scheduleWidth ≤ length (now cells) ⌝ }
+    requires { ⌜ RowsLinked (now cells) n (now links) ⌝ }
     requires { ⌜ count ≤ length (now units) ⌝ }
     ensures { λ r. ⌜ r ≡ lowestOf (Schedules·unscheduled (take count (now (units .entry))) (scheduleRows n (now (cells .entry)))) ⌝ }
 {
     let mut i = 0;
     while i < count {
         let unit = units[i];
-        if !has_row(cells, n, by_unit, unit) {
+        if !has_row(cells, n, links, unit) {
             return Lowest::Number(unit);
         }
         i += 1;
@@ -95,27 +78,18 @@ pub fn unscheduled(
     Lowest::Nothing
 }
 
-fn has_row(cells: &[u64], n: usize, by_unit: &[usize], unit: u64) -> bool
-    requires { ⌜ n * 9 ≤ length (now cells) ⌝ }
-    requires { ⌜ Linked (unitKey (now cells)) unitKeys n (now «by_unit») ⌝ }
+fn has_row(cells: &[u64], n: usize, links: &[u16], unit: u64) -> bool
+    requires { ⌜ n * scheduleWidth ≤ length (now cells) ⌝ }
+    requires { ⌜ Linked (unitKey (now cells)) unitKeys n (now links) ⌝ }
     ensures { λ r. ⌜ r ≡ hasRow unit (scheduleRows n (now (cells .entry))) ⌝ }
 {
-    let mut left = by_unit[ROWS + unit_key(unit)];
+    let mut left = link_at(links, ROWS + unit_key(unit));
     while 0 < left {
         let k = left - 1;
         if cell(cells, k, UNIT) == unit {
             return true;
         }
-        left = by_unit[k];
+        left = link_at(links, k);
     }
     false
-}
-
-// The cell of a row in a column.
-pub fn cell(cells: &[u64], row: usize, column: usize) -> u64
-    requires { ⌜ row * 9 + 9 ≤ length (now cells) ⌝ }
-    requires { ⌜ column < 9 ⌝ }
-    ensures { λ r. ⌜ r ≡ getD (now (cells .entry)) (row * 9 + column) 0 ⌝ }
-{
-    cells[row * WIDTH + column]
 }

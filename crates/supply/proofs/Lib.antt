@@ -1,4 +1,2 @@
-pub mod CheckLaws
-pub mod NumberLaws
 pub mod SupplyLaws
 pub mod UnitLaws

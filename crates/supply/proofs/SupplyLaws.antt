@@ -17,11 +17,13 @@ use Rattle.base.specs.Writing.{Wrote}
 use Rattle.base.proofs.Lists.{drop-end}
 use Rattle.base.proofs.Elements.{any-same}
 use Rattle.base.proofs.Tests.{either, eq-or-ne, and-fst, and-snd, or-fst, or-snd}
+use Rattle.numbers.specs.Numbers.{numbersFrom, numbersOf}
 use Rattle.tables.specs.Rows.{SupplyRow, supplyRows}
-use Rattle.tables.proofs.RowViews.{supply-next, supply-length}
-use Rattle.supply.specs.Supply.{units, unitsFrom, suppliers, suppliersFrom, mostUnits, mostSuppliers, crowded, crowdedFrom, supplyOdds, supplyAtOdds}
+use Rattle.cells.proofs.RowViews.{supply-next, supply-length}
+use Rattle.supply.specs.Supply.{units, suppliers, mostUnits, mostSuppliers, crowded, crowdedFrom, supplyOdds, supplyAtOdds}
 use Rattle.links.specs.Links.{lastSame, Unlinked, anyBefore, unitKeys}
-use Rattle.supply.specs.SupplyPromises.{Counted, tooMany, rowAt, earlier, AgreeBefore, supplyKey}
+use Rattle.cells.specs.Views.{supplyAt}
+use Rattle.supply.specs.SupplyPromises.{Counted, tooMany, earlier, AgreeBefore, supplyKey}
 use Rattle.links.proofs.LinkLaws.{last-here, last-later, last-upto, last-any, any-last}
 
 -- a run in which different numbers are laid down, `count` so far
@@ -44,13 +46,13 @@ pub record Counting (cells : List ℕ) (n : ℕ) (us₀ ss₀ us ss : List ℕ) 
   pub units-run : Growing mostUnits us₀ us uc
   pub suppliers-run : Growing mostSuppliers ss₀ ss sc
   pub place : crowded (supplyRows n cells) ≡ crowdedFrom (take uc us) (take sc ss) (suc k) (drop k (supplyRows n cells))
-  pub all-units : units (supplyRows n cells) ≡ unitsFrom (take uc us) (drop k (supplyRows n cells))
-  pub all-suppliers : suppliers (supplyRows n cells) ≡ suppliersFrom (take sc ss) (drop k (supplyRows n cells))
+  pub all-units : units (supplyRows n cells) ≡ numbersFrom (λ (r : SupplyRow). r .unit) (take uc us) (drop k (supplyRows n cells))
+  pub all-suppliers : suppliers (supplyRows n cells) ≡ numbersFrom (λ (r : SupplyRow). r .supplier) (take sc ss) (drop k (supplyRows n cells))
 
 module _ (cells : List ℕ) (n : ℕ) (us₀ ss₀ : List ℕ) where
   pub counting-none :
       n * 5 ≤ length cells → mostUnits < length us₀ → mostSuppliers < length ss₀ → Counting cells n us₀ ss₀ us₀ ss₀ 0 0 0
-  unfolding crowded units suppliers
+  unfolding crowded units suppliers numbersOf
   counting-none h u s =
       record {
         upto = omega arith;
@@ -67,7 +69,7 @@ module _ (cells : List ℕ) (n : ℕ) (us₀ ss₀ : List ℕ) where
       (unit-in : Wrote (inserted (getD cells (k * 5 + 0) 0) (take uc us)) uc' us us')
       (supplier-in : Wrote (inserted (getD cells (k * 5 + 1) 0) (take sc ss)) sc' ss ss')
     where
-      row : drop k (supplyRows n cells) ≡ rowAt cells k ∷ drop (k + 1) (supplyRows n cells)
+      row : drop k (supplyRows n cells) ≡ supplyAt cells k ∷ drop (k + 1) (supplyRows n cells)
       row = supply-next n cells k inside
 
       abbrev more : Option ℕ
@@ -82,7 +84,7 @@ module _ (cells : List ℕ) (n : ℕ) (us₀ ss₀ : List ℕ) where
       pub counting-next :
           length us' ≡ length us → length ss' ≡ length ss → tooMany uc' sc' ≡ false →
           Counting cells n us₀ ss₀ us' ss' uc' sc' (k + 1)
-      unfolding tooMany unitsFrom suppliersFrom
+      unfolding tooMany numbersFrom
       counting-next u s t =
           let units-few = ltb-false mostUnits uc' (or-fst (ltb mostUnits uc') (ltb mostSuppliers sc') t) in
           let suppliers-few = ltb-false mostSuppliers sc' (or-snd (ltb mostUnits uc') (ltb mostSuppliers sc') t) in
@@ -120,7 +122,7 @@ module _ (cells : List ℕ) (n : ℕ) (us₀ ss₀ : List ℕ) where
   pub counting-over :
       (us ss : List ℕ) (uc sc k : ℕ) → Counting cells n us₀ ss₀ us ss uc sc k → n ≤ k →
       Counted (supplyRows n cells) us ss (record { place = 0; units = uc; suppliers = sc })
-  unfolding crowdedFrom unitsFrom suppliersFrom
+  unfolding crowdedFrom numbersFrom
   counting-over us ss uc sc k c h =
       record {
         place = rw (c .place, none-left);
@@ -173,9 +175,9 @@ module _ (r e : SupplyRow) where
 pub record Comparing (cells : List ℕ) (k left : ℕ) : Type 0 where
   pub upto : left ≤ k
   pub room : k * 5 + 5 ≤ length cells
-  pub rest : any (supplyOdds (rowAt cells k)) (earlier cells k) ≡ any (supplyOdds (rowAt cells k)) (earlier cells left)
+  pub rest : any (supplyOdds (supplyAt cells k)) (earlier cells k) ≡ any (supplyOdds (supplyAt cells k)) (earlier cells left)
 
-earlier-last : (cells : List ℕ) (k : ℕ) → 0 < k → earlier cells k ≡ rowAt cells (k - 1) ∷ earlier cells (k - 1)
+earlier-last : (cells : List ℕ) (k : ℕ) → 0 < k → earlier cells k ≡ supplyAt cells (k - 1) ∷ earlier cells (k - 1)
 unfolding earlier
 earlier-last cells k h =
     let one-less : k ≡ suc (k - 1) = omega arith in
@@ -186,20 +188,20 @@ module _ (cells : List ℕ) (k : ℕ) where
   comparing-none h = record { upto = omega arith; room = h; rest = refl }
 
   pub comparing-next :
-      (left : ℕ) → Comparing cells k left → 0 < left → supplyOdds (rowAt cells k) (rowAt cells (left - 1)) ≡ false →
+      (left : ℕ) → Comparing cells k left → 0 < left → supplyOdds (supplyAt cells k) (supplyAt cells (left - 1)) ≡ false →
       Comparing cells k (left - 1)
   unfolding any
   comparing-next left c h e =
       record { upto = omega arith; room = c .room; rest = c .rest ∙ rw (earlier-last cells left h, e) }
 
   pub comparing-here :
-      (left : ℕ) → Comparing cells k left → 0 < left → supplyOdds (rowAt cells k) (rowAt cells (left - 1)) ≡ true →
-      true ≡ any (supplyOdds (rowAt cells k)) (earlier cells k)
+      (left : ℕ) → Comparing cells k left → 0 < left → supplyOdds (supplyAt cells k) (supplyAt cells (left - 1)) ≡ true →
+      true ≡ any (supplyOdds (supplyAt cells k)) (earlier cells k)
   unfolding any
   comparing-here left c h e = sym (c .rest ∙ rw (earlier-last cells left h, e))
 
   pub comparing-over :
-      (left : ℕ) → Comparing cells k left → left ≤ 0 → false ≡ any (supplyOdds (rowAt cells k)) (earlier cells k)
+      (left : ℕ) → Comparing cells k left → left ≤ 0 → false ≡ any (supplyOdds (supplyAt cells k)) (earlier cells k)
   unfolding any earlier
   comparing-over left c h =
       let over : left ≡ 0 = omega arith in
@@ -212,9 +214,9 @@ keyed-upto cells k left is = rw is (last-upto (supplyKey cells) (supplyKey cells
 -- the row at k against the last of its key, where those before it agree
 module _ (cells : List ℕ) (k left : ℕ) (is : left ≡ lastSame (supplyKey cells) (supplyKey cells k) k) where
   abbrev odd : ℕ → Bool
-  odd j = supplyOdds (rowAt cells k) (rowAt cells j)
+  odd j = supplyOdds (supplyAt cells k) (supplyAt cells j)
 
-  earlier-any : (r : SupplyRow) (j : ℕ) → any (supplyOdds r) (earlier cells j) ≡ anyBefore (λ (i : ℕ). supplyOdds r (rowAt cells i)) j
+  earlier-any : (r : SupplyRow) (j : ℕ) → any (supplyOdds r) (earlier cells j) ≡ anyBefore (λ (i : ℕ). supplyOdds r (supplyAt cells i)) j
   unfolding any earlier anyBefore
   earlier-any r zero = refl
   earlier-any r (suc j) = rw (earlier-any r j)
@@ -222,27 +224,27 @@ module _ (cells : List ℕ) (k left : ℕ) (is : left ≡ lastSame (supplyKey ce
   alike : (j : ℕ) → odd j ≡ true → supplyKey cells j ≡ supplyKey cells k
   unfolding supplyOdds
   alike j e =
-      rw (eqb-true (rowAt cells k .unit) (rowAt cells j .unit) (and-fst (eqb (rowAt cells k .unit) (rowAt cells j .unit)) _ e))
+      rw (eqb-true (supplyAt cells k .unit) (supplyAt cells j .unit) (and-fst (eqb (supplyAt cells k .unit) (supplyAt cells j .unit)) _ e))
 
-  as-last : any (supplyOdds (rowAt cells k)) (earlier cells k) ≡ anyBefore odd left
-  as-last = earlier-any (rowAt cells k) k ∙ last-any (supplyKey cells) odd (supplyKey cells k) alike k ∙ rw (← is)
+  as-last : any (supplyOdds (supplyAt cells k)) (earlier cells k) ≡ anyBefore odd left
+  as-last = earlier-any (supplyAt cells k) k ∙ last-any (supplyKey cells) odd (supplyKey cells k) alike k ∙ rw (← is)
 
-  pub last-none : left ≡ 0 → false ≡ any (supplyOdds (rowAt cells k)) (earlier cells k)
+  pub last-none : left ≡ 0 → false ≡ any (supplyOdds (supplyAt cells k)) (earlier cells k)
   unfolding anyBefore
   last-none e = sym (as-last ∙ rw e)
 
   -- rows that are not at odds, of one unit, are at odds with the same rows
-  same-odds : (j : ℕ) → rowAt cells k .unit ≡ rowAt cells j .unit → odd j ≡ false → (e : SupplyRow) → supplyOdds (rowAt cells k) e ≡ supplyOdds (rowAt cells j) e
+  same-odds : (j : ℕ) → supplyAt cells k .unit ≡ supplyAt cells j .unit → odd j ≡ false → (e : SupplyRow) → supplyOdds (supplyAt cells k) e ≡ supplyOdds (supplyAt cells j) e
   unfolding supplyOdds
   same-odds j unit agreed e =
-      let shared = not-false _ (simp (eq-eqb (rowAt cells k .unit) (rowAt cells j .unit) unit) at agreed) in
-      let supplier = eqb-true (rowAt cells k .supplier) (rowAt cells j .supplier) (and-fst _ (eqb (rowAt cells k .dfax) (rowAt cells j .dfax)) shared) in
-      let dfax = eqb-true (rowAt cells k .dfax) (rowAt cells j .dfax) (and-snd (eqb (rowAt cells k .supplier) (rowAt cells j .supplier)) _ shared) in
+      let shared = not-false _ (simp (eq-eqb (supplyAt cells k .unit) (supplyAt cells j .unit) unit) at agreed) in
+      let supplier = eqb-true (supplyAt cells k .supplier) (supplyAt cells j .supplier) (and-fst _ (eqb (supplyAt cells k .dfax) (supplyAt cells j .dfax)) shared) in
+      let dfax = eqb-true (supplyAt cells k .dfax) (supplyAt cells j .dfax) (and-snd (eqb (supplyAt cells k .supplier) (supplyAt cells j .supplier)) _ shared) in
       rw (unit, supplier, dfax)
 
   pub last-alone :
-      0 < left → AgreeBefore cells k → rowAt cells k .unit ≡ rowAt cells (left - 1) .unit → (t : Bool) → t ≡ odd (left - 1) →
-      t ≡ any (supplyOdds (rowAt cells k)) (earlier cells k)
+      0 < left → AgreeBefore cells k → supplyAt cells k .unit ≡ supplyAt cells (left - 1) .unit → (t : Bool) → t ≡ odd (left - 1) →
+      t ≡ any (supplyOdds (supplyAt cells k)) (earlier cells k)
   last-alone h agree unit t said = said ∙ sym (as-last ∙ any-last odd left h ∙ ⊎-elim here other (either (odd (left - 1))))
     where
       here : odd (left - 1) ≡ true → (odd (left - 1) || anyBefore odd (left - 1)) ≡ odd (left - 1)
@@ -251,8 +253,8 @@ module _ (cells : List ℕ) (k left : ℕ) (is : left ≡ lastSame (supplyKey ce
       other : odd (left - 1) ≡ false → (odd (left - 1) || anyBefore odd (left - 1)) ≡ odd (left - 1)
       other e =
           rw e
-          (sym (earlier-any (rowAt cells k) (left - 1))
-          ∙ any-same (supplyOdds (rowAt cells k)) (supplyOdds (rowAt cells (left - 1))) (earlier cells (left - 1)) (same-odds (left - 1) unit e)
+          (sym (earlier-any (supplyAt cells k) (left - 1))
+          ∙ any-same (supplyOdds (supplyAt cells k)) (supplyOdds (supplyAt cells (left - 1))) (earlier cells (left - 1)) (same-odds (left - 1) unit e)
           ∙ agree (left - 1) (omega (arith, keyed-upto cells k left is)))
 
 -- n rows, of which the first k are at odds with none, and each key has its last row
@@ -283,7 +285,7 @@ module _ (cells : List ℕ) (n : ℕ) (old : List ℕ) where
   pub last-keyed : {last : List ℕ} {k : ℕ} (x : ℕ) → Agreeing cells n old last k → x ≡ supplyKey cells k → x < unitKeys → getD last x 0 ≡ lastSame (supplyKey cells) (supplyKey cells k) k
   last-keyed x a key one = a .keys x one ∙ rw key
 
-  module _ (last : List ℕ) (k : ℕ) (t : Bool) (a : Agreeing cells n old last k) (h : k < n) (is : t ≡ any (supplyOdds (rowAt cells k)) (earlier cells k)) where
+  module _ (last : List ℕ) (k : ℕ) (t : Bool) (a : Agreeing cells n old last k) (h : k < n) (is : t ≡ any (supplyOdds (supplyAt cells k)) (earlier cells k)) where
     -- the row's key is x
     pub agreeing-next :
         (x y : ℕ) → t ≡ false → x ≡ supplyKey cells k → x < unitKeys → y ≡ k + 1 → Agreeing cells n old (set last x y) (k + 1)

@@ -1,59 +1,27 @@
 -- Laws of the units of supply rows: they rise, and a number is among them where some row has it. And of the places that
 -- refusals 5 and 6 name: 0 stands for none. Assumes nothing.
-use Prim.Native.Nat.{ℕ, suc, _≤_, _<_}
-use mathlib.Core.Path.{_≡_, refl, sym, _∙_, ap}
-use mathlib.Core.Bool.{Bool, true, false, cond, _||_, or-false}
+use Prim.Native.Nat.{ℕ, suc, _≤_}
+use mathlib.Core.Path.{_≡_, refl, sym, ap}
+use mathlib.Core.Bool.{Bool, true, false, cond}
 use mathlib.Core.List.{List, [], _∷_}
 use mathlib.Core.Option.{Option, none, some, Option·getD}
-use mathlib.Core.Logic.{⊎-elim}
 use native.Mathlib.Omega.{arith}
 use lib.Dec.{eqb}
 use lib.ListN.{length}
-use borrow.Author.Tests.{eq-eqb, ne-eqb}
-use Rattle.base.specs.Rising.{among, RisingFrom, end, inserted}
-use Rattle.base.specs.Search.{any, first, firstAtOdds, All, all-none, all-more}
-use Rattle.base.proofs.RisingLaws.{inserted-rising, among-inserted}
-use Rattle.base.proofs.Tests.{eq-or-ne}
+use Rattle.base.specs.Rising.{among, RisingFrom, inserted}
+use Rattle.base.specs.Search.{any, first, firstAtOdds, All}
+use Rattle.numbers.proofs.NumberLaws.{numbers-above, among-numbers}
 use Rattle.tables.specs.Rows.{SupplyRow}
-use Rattle.supply.specs.Supply.{units, unitsFrom, crowded, crowdedFrom, supplyOdds, supplyAtOdds}
+use Rattle.supply.specs.Supply.{units, crowded, crowdedFrom, supplyOdds, supplyAtOdds}
 use Rattle.supply.specs.SupplyPromises.{tooMany}
-
-units-rising-from :
-    {us : List ℕ} {rs : List SupplyRow} → RisingFrom 0 us → All (λ (r : SupplyRow). 1 ≤ r .unit) rs → RisingFrom 0 (unitsFrom us rs)
-unfolding unitsFrom
-units-rising-from h all-none = h
-units-rising-from h (all-more {x = r} p a) = units-rising-from (inserted-rising (r .unit) p h) a
 
 pub units-rising : {rs : List SupplyRow} → All (λ (r : SupplyRow). 1 ≤ r .unit) rs → RisingFrom 0 (units rs)
 unfolding units
-units-rising a = units-rising-from end a
+units-rising a = numbers-above (λ (r : SupplyRow). r .unit) a
 
-eqb-swapped : (m n : ℕ) → eqb m n ≡ eqb n m
-eqb-swapped m n =
-    ⊎-elim
-    (λ e. eq-eqb m n e ∙ sym (eq-eqb n m (sym e)))
-    (λ e. ne-eqb m n e ∙ sym (ne-eqb n m (λ f. e (sym f))))
-    (eq-or-ne m n)
-
--- who came with the row, or before it, or comes after it
-pub one-of : (row before after : Bool) → ((row || before) || after) ≡ (before || (row || after))
-one-of true true after = refl
-one-of true false after = refl
-one-of false before after = refl
-
-module _ (u : ℕ) where
-  among-units-from :
-      (us : List ℕ) (rs : List SupplyRow) →
-      among u (unitsFrom us rs) ≡ (among u us || any (λ (r : SupplyRow). eqb (r .unit) u) rs)
-  unfolding unitsFrom any
-  among-units-from us [] = sym (or-false (among u us))
-  among-units-from us (r ∷ rs) =
-      among-units-from (inserted (r .unit) us) rs
-      ∙ rw (among-inserted u (r .unit) us, eqb-swapped u (r .unit)) (one-of (eqb (r .unit) u) (among u us) _)
-
-  pub among-units : (rs : List SupplyRow) → among u (units rs) ≡ any (λ (r : SupplyRow). eqb (r .unit) u) rs
-  unfolding units among
-  among-units rs = among-units-from [] rs
+pub among-units : (u : ℕ) (rs : List SupplyRow) → among u (units rs) ≡ any (λ (r : SupplyRow). eqb (r .unit) u) rs
+unfolding units
+among-units u rs = among-numbers (λ (r : SupplyRow). r .unit) u rs
 
 -- records count from 1, so the place 0 is no record
 no-place :
@@ -95,6 +63,6 @@ first-none-at p k [] e = refl
 first-none-at p k (x ∷ xs) e = no-place (p x) k (first p (suc (suc k)) xs) (first-none-at p (suc k) xs) e
 
 -- any other place is one
-pub place-some : (o : Option ℕ) (p : ℕ) → p ≡ Option·getD o 0 → 0 < p → o ≡ some p
-place-some none p e h = absurd (omega arith)
-place-some (some k) p e h = ap some (sym e)
+pub place-is : (o : Option ℕ) (p : ℕ) → p ≡ Option·getD o 0 → (p ≡ 0 → ⊥) → o ≡ some p
+place-is none p e h = absurd (h e)
+place-is (some k) p e h = ap some (sym e)

@@ -1,4 +1,2 @@
-pub mod Checks
-pub mod Numbers
 pub mod Supply
 pub mod SupplyPromises

@@ -8,6 +8,7 @@ use lib.Dec.{eqb, ltb}
 use lib.ListN.{length}
 use Rattle.base.specs.Rising.{inserted}
 use Rattle.base.specs.Search.{firstAtOdds}
+use Rattle.numbers.specs.Numbers.{numbersOf}
 use Rattle.tables.specs.Rows.{SupplyRow}
 
 abbrev pub mostUnits : ℕ
@@ -16,21 +17,13 @@ mostUnits = 64
 abbrev pub mostSuppliers : ℕ
 mostSuppliers = 32
 
--- the units of some rows, by rising number, beside those of the rows before
-unfoldable pub unitsFrom : List ℕ → List SupplyRow → List ℕ
-unitsFrom us [] = us
-unitsFrom us (r ∷ rs) = unitsFrom (inserted (r .unit) us) rs
+-- the units of some rows, by rising number
+unfoldable pub units : List SupplyRow → List ℕ
+units rs = numbersOf (λ (r : SupplyRow). r .unit) rs
 
 -- the suppliers likewise
-unfoldable pub suppliersFrom : List ℕ → List SupplyRow → List ℕ
-suppliersFrom ss [] = ss
-suppliersFrom ss (r ∷ rs) = suppliersFrom (inserted (r .supplier) ss) rs
-
-unfoldable pub units : List SupplyRow → List ℕ
-units rs = unitsFrom [] rs
-
 unfoldable pub suppliers : List SupplyRow → List ℕ
-suppliers rs = suppliersFrom [] rs
+suppliers rs = numbersOf (λ (r : SupplyRow). r .supplier) rs
 
 -- 5: "a 65th unit or 33rd supplier in supply (its record)". Of the rows before, us are the units and ss the suppliers
 unfoldable pub crowdedFrom : List ℕ → List ℕ → ℕ → List SupplyRow → Option ℕ
@@ -52,5 +45,5 @@ supplyAtOdds rs = firstAtOdds supplyOdds [] 1 rs
 
 -- opens all of the above, for examples that compute
 unfoldable pub supply·all : Unit {0}
-unfolding unitsFrom suppliersFrom units suppliers crowdedFrom crowded supplyOdds supplyAtOdds
+unfolding units suppliers crowdedFrom crowded supplyOdds supplyAtOdds
 supply·all = tt

@@ -8,6 +8,7 @@ use lib.Dec.{ltb}
 use lib.ListN.{length, getD, take}
 use Rattle.base.specs.Search.{any}
 use Rattle.tables.specs.Rows.{SupplyRow}
+use Rattle.cells.specs.Views.{supplyWidth, supplyAt}
 use Rattle.links.specs.Links.{byUnit}
 use Rattle.supply.specs.Supply.{units, suppliers, mostUnits, mostSuppliers, crowded, supplyOdds}
 use Rattle.supply.specs.declared.rows.Counts.{Counts}
@@ -28,26 +29,15 @@ pub record Counted (rows : List SupplyRow) (us ss : List ℕ) (r : Counts) : Typ
 unfoldable pub tooMany : ℕ → ℕ → Bool
 tooMany us ss = ltb mostUnits us || ltb mostSuppliers ss
 
--- the row at a place, from 0 on
-abbrev pub rowAt : List ℕ → ℕ → SupplyRow
-rowAt cells k =
-    record {
-      unit = getD cells (k * 5 + 0) 0;
-      supplier = getD cells (k * 5 + 1) 0;
-      mw = getD cells (k * 5 + 2) 0;
-      cost = getD cells (k * 5 + 3) 0;
-      dfax = getD cells (k * 5 + 4) 0;
-    }
-
 -- the rows before a place, the last of them first
 unfoldable pub earlier : List ℕ → ℕ → List SupplyRow
 earlier cells zero = []
-earlier cells (suc k) = rowAt cells k ∷ earlier cells k
+earlier cells (suc k) = supplyAt cells k ∷ earlier cells k
 
 -- none of the rows before a place is at odds with an earlier one
 abbrev pub AgreeBefore : List ℕ → ℕ → Type 0
-AgreeBefore cells k = (j : ℕ) → j < k → any (supplyOdds (rowAt cells j)) (earlier cells j) ≡ false
+AgreeBefore cells k = (j : ℕ) → j < k → any (supplyOdds (supplyAt cells j)) (earlier cells j) ≡ false
 
 -- the key of the row at a place: rows of one unit share it
 abbrev pub supplyKey : List ℕ → ℕ → ℕ
-supplyKey cells k = byUnit (getD cells (k * 5 + 0) 0)
+supplyKey cells k = byUnit (getD cells (k * supplyWidth + 0) 0)

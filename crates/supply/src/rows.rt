@@ -9,9 +9,14 @@ ghost use Rattle.base.specs.Search.{any};
 ghost use Rattle.tables.specs.Rows.{supplyRows};
 ghost use Rattle.links.specs.Links.{lastSame, Unlinked, unitKeys};
 ghost use Rattle.supply.specs.Supply.{mostUnits, mostSuppliers, supplyOdds, supplyAtOdds};
-ghost use Rattle.supply.specs.SupplyPromises.{Counted, tooMany, rowAt, earlier, AgreeBefore, supplyKey};
-use crate::numbers::insert;
+ghost use Rattle.cells.specs.Views.{supplyWidth, supplyAt};
+ghost use Rattle.supply.specs.SupplyPromises.{Counted, tooMany, earlier, AgreeBefore, supplyKey};
+use cells::supply::DFAX;
+use cells::supply::SUPPLIER;
+use cells::supply::UNIT;
+use cells::supply::WIDTH;
 use links::unit_key;
+use numbers::insert;
 
 const UNITS: usize = 64;
 
@@ -19,15 +24,6 @@ const SUPPLIERS: usize = 32;
 
 // How many keys the units have.
 const KEYS: usize = 1024;
-
-// How many cells a row has, and which of them are read here.
-const WIDTH: usize = 5;
-
-const UNIT: usize = 0;
-
-const SUPPLIER: usize = 1;
-
-const DFAX: usize = 4;
 
 // The record that brings a unit or a supplier too many, 0 where none does; and how many units and
 // suppliers there are.
@@ -40,7 +36,7 @@ pub struct Counts {
 // Counts the units and the suppliers of n rows, as far as the first record that brings one too many,
 // and lays them down by rising number.
 pub fn crowd(cells: &[u64], n: usize, units: &mut [u64], suppliers: &mut [u64]) -> Counts
-    requires { ⌜ (n * 5 ≤ length (now cells)) × (mostUnits < length (now units)) × (mostSuppliers < length (now suppliers)) ⌝ }
+    requires { ⌜ (n * supplyWidth ≤ length (now cells)) × (mostUnits < length (now units)) × (mostSuppliers < length (now suppliers)) ⌝ }
     ensures { λ r. ⌜ Counted (supplyRows n (now (cells .entry))) (now (units .exit)) (now (suppliers .exit)) r ⌝ }
 {
     let mut unit_count = 0;
@@ -78,7 +74,7 @@ fn too_many(units: usize, suppliers: usize) -> bool
 
 // The first record that is at odds with an earlier one, 0 where none is.
 pub fn supply_at_odds(cells: &[u64], n: usize) -> usize
-    requires { ⌜ n * 5 ≤ length (now cells) ⌝ }
+    requires { ⌜ n * supplyWidth ≤ length (now cells) ⌝ }
     ensures { λ r. ⌜ r ≡ Option·getD (supplyAtOdds (supplyRows n (now (cells .entry)))) 0 ⌝ }
 {
     let mut last = [0usize; KEYS];
@@ -87,7 +83,7 @@ pub fn supply_at_odds(cells: &[u64], n: usize) -> usize
 
 // The same, with a lent run in which each key has one more than the place of its last row so far.
 fn first_at_odds(cells: &[u64], n: usize, last: &mut [usize]) -> usize
-    requires { ⌜ n * 5 ≤ length (now cells) ⌝ }
+    requires { ⌜ n * supplyWidth ≤ length (now cells) ⌝ }
     requires { ⌜ unitKeys ≤ length (now last) ⌝ }
     requires { ⌜ Unlinked (now last) ⌝ }
     ensures { λ r. ⌜ r ≡ Option·getD (supplyAtOdds (supplyRows n (now (cells .entry)))) 0 ⌝ }
@@ -108,11 +104,11 @@ fn first_at_odds(cells: &[u64], n: usize, last: &mut [usize]) -> usize
 // earlier one: rows of its unit agree, so the last of them will do. Left is the last row of its key,
 // counted from 1; where that is of another unit, all are compared.
 fn at_odds_with_last(cells: &[u64], k: usize, left: usize) -> bool
-    requires { ⌜ k * 5 + 5 ≤ length (now cells) ⌝ }
+    requires { ⌜ k * supplyWidth + supplyWidth ≤ length (now cells) ⌝ }
     requires { ⌜ left ≤ k ⌝ }
     requires { ⌜ left ≡ lastSame (supplyKey (now cells)) (supplyKey (now cells) k) k ⌝ }
     requires { ⌜ AgreeBefore (now cells) k ⌝ }
-    ensures { λ r. ⌜ r ≡ any (supplyOdds (rowAt (now (cells .entry)) k)) (earlier (now (cells .entry)) k) ⌝ }
+    ensures { λ r. ⌜ r ≡ any (supplyOdds (supplyAt (now (cells .entry)) k)) (earlier (now (cells .entry)) k) ⌝ }
 {
     if left == 0 {
         return false;
@@ -126,8 +122,8 @@ fn at_odds_with_last(cells: &[u64], k: usize, left: usize) -> bool
 
 // Whether the row at k is at odds with one before it.
 fn at_odds_with_earlier(cells: &[u64], k: usize) -> bool
-    requires { ⌜ k * 5 + 5 ≤ length (now cells) ⌝ }
-    ensures { λ r. ⌜ r ≡ any (supplyOdds (rowAt (now (cells .entry)) k)) (earlier (now (cells .entry)) k) ⌝ }
+    requires { ⌜ k * supplyWidth + supplyWidth ≤ length (now cells) ⌝ }
+    ensures { λ r. ⌜ r ≡ any (supplyOdds (supplyAt (now (cells .entry)) k)) (earlier (now (cells .entry)) k) ⌝ }
 {
     let mut left = k;
     while 0 < left {
@@ -141,8 +137,8 @@ fn at_odds_with_earlier(cells: &[u64], k: usize) -> bool
 
 // Whether two rows are of one unit and differ in supplier or dfax.
 fn at_odds(cells: &[u64], late: usize, early: usize) -> bool
-    requires { ⌜ (late * 5 + 5 ≤ length (now cells)) × (early * 5 + 5 ≤ length (now cells)) ⌝ }
-    ensures { λ r. ⌜ r ≡ supplyOdds (rowAt (now (cells .entry)) late) (rowAt (now (cells .entry)) early) ⌝ }
+    requires { ⌜ (late * supplyWidth + supplyWidth ≤ length (now cells)) × (early * supplyWidth + supplyWidth ≤ length (now cells)) ⌝ }
+    ensures { λ r. ⌜ r ≡ supplyOdds (supplyAt (now (cells .entry)) late) (supplyAt (now (cells .entry)) early) ⌝ }
 {
     let a = late * WIDTH;
     let b = early * WIDTH;

@@ -1,14 +1,17 @@
 -- Laws of the table: what stands at a column's place in the code's tables is what the column says. Assumes nothing.
-use Prim.Native.Nat.{ℕ, _≤_}
+use Prim.Native.Nat.{ℕ, _≤_, _<_}
 use mathlib.Core.Path.{_≡_, refl, sym, _∙_, ap}
-use mathlib.Core.Bool.{true}
+use mathlib.Core.Bool.{true, false}
 use mathlib.Core.List.{List, map}
 use native.Mathlib.Omega.{arith}
+use lib.Dec.{leb}
 use lib.ListN.{getD, List·getD-map}
+use borrow.Author.Tests.{le-leb, lt-leb}
 use Rattle.base.proofs.Lists.{allAtMost, at-most}
 use Rattle.numeral.specs.declared.Answer.{Answer}
 use Rattle.numeral.specs.Answers.{answer}
 use Rattle.numeral.specs.Numeral.{number, within}
+use Rattle.tables.specs.Ranges.{inColumn}
 use Rattle.tables.specs.Table.{
   Form,
   numeral,
@@ -63,6 +66,16 @@ module _ (i : ℕ) where
     where
       computed : allAtMost 100000000 maxima ≡ true
       computed = unfold allAtMost allColumns constraintColumns supplyColumns schedulesColumns in refl
+
+-- a number below the minimum, and any other
+module _ (i x : ℕ) where
+  pub below-column : x < getD minima i 0 → false ≡ inColumn (columnAt i) x
+  unfolding inColumn
+  below-column h = rw (← minimum-at i, lt-leb (getD minima i 0) x h)
+
+  pub from-minimum : getD minima i 0 ≤ x → leb x (getD maxima i 0) ≡ inColumn (columnAt i) x
+  unfolding inColumn
+  from-minimum h = rw (← minimum-at i, ← maximum-at i, le-leb (getD minima i 0) x h)
 
 -- a column's form decides how its fields are read
 module _ (c : Column) (t : List ℕ) where

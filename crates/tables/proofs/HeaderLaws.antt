@@ -6,12 +6,12 @@ use mathlib.Core.List.{List}
 use native.Mathlib.Omega.{arith}
 use lib.ListN.{length, take, drop, length-drop}
 use lib.Seq.{drop-drop}
-use Rattle.base.specs.Text.{bytes, same}
+use Rattle.base.specs.Text.{same}
 use Rattle.base.proofs.Lists.{drop-back, rest-lent}
 use Rattle.csv.specs.Fields.{extent, inner, unread, texts, passed}
 use Rattle.tables.specs.Reading.{sameFields}
 use Rattle.tables.specs.Laying.{FieldsCompared, HeaderRead}
-use Rattle.tables.specs.Table.{header, width, constraintColumns, supplyColumns, schedulesColumns}
+use Rattle.tables.specs.Table.{header, joined, headerText, width, constraintColumns, supplyColumns, schedulesColumns}
 use Rattle.tables.proofs.RowLaws.{texts-next, passed-next}
 use Rattle.tables.specs.declared.files.File.{File}
 use Rattle.tables.specs.declared.files.File.the-variants.{Constraint, Supply, Schedules}
@@ -86,22 +86,18 @@ texts-same s t v w n m p q a b e =
     let q′ : m - 0 ≡ extent false t = omega arith in
     e ∙ rw (a, b, p′, q′)
 
--- the text of a file's header
-abbrev pub headerText : File → List ℕ
-headerText Constraint = bytes "hour,relief,cutoff"
-headerText Supply = bytes "unit,supplier,mw,cost,dfax"
-headerText Schedules = bytes "unit,schedule,kind,hour,ecomin,price,noload,startup,minrun"
-
 header-texts : (f : File) → texts (width f) (headerText f) ≡ header f
-unfolding texts extent inner unread header width constraintColumns supplyColumns schedulesColumns
+unfolding texts extent inner unread header joined headerText width constraintColumns supplyColumns schedulesColumns
 header-texts Constraint = refl
 header-texts Supply = refl
 header-texts Schedules = refl
 
-pub header-read : {s : List ℕ} {r : Header} (f : File) → FieldsCompared (width f) s (headerText f) r → HeaderRead f s r
-header-read {s} f c =
+pub header-read :
+    {s t : List ℕ} {k : ℕ} {r : Header} (f : File) → k ≡ width f → t ≡ headerText f → FieldsCompared k s t r → HeaderRead f s r
+header-read {s} f wide e c =
+    let d = rw (wide, e) at c in
     record {
-      same = c .same ∙ ap (sameFields (texts (width f) s)) (header-texts f);
-      within = c .within;
-      next = c .next;
+      same = d .same ∙ ap (sameFields (texts (width f) s)) (header-texts f);
+      within = d .within;
+      next = d .next;
     }

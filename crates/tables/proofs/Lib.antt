@@ -6,5 +6,4 @@ pub mod HeaderLaws
 pub mod Permitted
 pub mod ReadLaws
 pub mod RowLaws
-pub mod RowViews
 pub mod Starred

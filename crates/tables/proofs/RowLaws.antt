@@ -18,6 +18,7 @@ use Rattle.numeral.specs.declared.Answer.the-variants.{Number, Refused}
 use Rattle.numeral.specs.Answers.{answer}
 use Rattle.numeral.proofs.Laws.{answer-number, answer-refused}
 use Rattle.tables.specs.Table.{
+  columnCount,
   Column,
   column,
   numeral,
@@ -47,17 +48,17 @@ columns-part Constraint = refl
 columns-part Supply = refl
 columns-part Schedules = refl
 
-pub within-all : (f : File) → firstColumn f + width f ≤ 17
+pub within-all : (f : File) → firstColumn f + width f ≤ columnCount
 unfolding width constraintColumns supplyColumns schedulesColumns
 within-all Constraint = omega arith
 within-all Supply = omega arith
 within-all Schedules = omega arith
 
-all-length : length allColumns ≡ 17
+all-length : length allColumns ≡ columnCount
 unfolding allColumns constraintColumns supplyColumns schedulesColumns
 all-length = refl
 
-module _ (first n : ℕ) (fits : first + n ≤ 17) where
+module _ (first n : ℕ) (fits : first + n ≤ columnCount) where
   part-length : length (part first n) ≡ n
   unfolding part
   part-length = simp (length-take, length-drop, all-length) (omega arith)
@@ -87,7 +88,7 @@ take-set l c v h = rw add-one (take-suc-set l c v h)
 -- a row of n columns from `first` on, of which c are laid down, and what is left unread
 pub record Laying (s old : List ℕ) (first n : ℕ) (new rest : List ℕ) (good : Bool) (c : ℕ) : Type 0 where
   pub upto : c ≤ n
-  pub fits : first + n ≤ 17
+  pub fits : first + n ≤ columnCount
   pub room : n ≤ length old
   pub same-length : length new ≡ length old
   pub at : ℕ
@@ -98,7 +99,7 @@ pub record Laying (s old : List ℕ) (first n : ℕ) (new rest : List ℕ) (good
   pub kept : drop c new ≡ drop c old
   pub formed : wellFormed (part first n) (texts n s) ≡ (good && wellFormed (drop c (part first n)) (texts (n - c) rest))
 
-pub laying-none : (s old : List ℕ) (first n : ℕ) → first + n ≤ 17 → n ≤ length old → Laying s old first n old s true 0
+pub laying-none : (s old : List ℕ) (first n : ℕ) → first + n ≤ columnCount → n ≤ length old → Laying s old first n old s true 0
 laying-none s old first n fits room =
     record {
       upto = omega arith;

@@ -1,4 +1,3 @@
-pub mod Hours
 pub mod Laying
 pub mod Ranges
 pub mod Reading

@@ -3,10 +3,16 @@
 use Prim.Native.Nat.{ℕ, _+_, _≤_}
 use mathlib.Core.Path.{_≡_}
 use mathlib.Core.Logic.{_⊎_}
+use mathlib.Core.Bool.{Bool, _&&_}
 use mathlib.Core.List.{List, [], _∷_}
-use Rattle.tables.specs.Hours.{lastHour}
-use Rattle.tables.specs.Rows.{ConstraintRow, SupplyRow, ScheduleRow}
-use Rattle.tables.specs.Table.{Form, numeral, signed, letter, Column, M, C}
+use lib.Dec.{leb}
+use Rattle.tables.specs.Rows.{SupplyRow, ScheduleRow}
+use Rattle.tables.specs.declared.constraint.ConstraintRow.{ConstraintRow}
+use Rattle.tables.specs.Table.{Form, numeral, signed, letter, Column, M, C, latestHour, highestCost}
+
+-- whether a number is within the range of a column of numerals
+unfoldable pub inColumn : Column → ℕ → Bool
+inColumn c x = leb (c .minimum) x && leb x (c .maximum)
 
 -- a number within its column's range
 abbrev pub permits : Form → ℕ → ℕ → ℕ → Type 0
@@ -21,7 +27,7 @@ pub data PermittedCells : List Column → List ℕ → Type 0 where
       permits (c .form) (c .minimum) (c .maximum) x → PermittedCells cs xs → PermittedCells (c ∷ cs) (x ∷ xs)
 
 pub record PermittedConstraint (r : ConstraintRow) : Type 0 where
-  pub hour : r .hour ≤ lastHour
+  pub hour : r .hour ≤ latestHour
   pub some-relief : 1 ≤ r .relief
   pub relief : r .relief ≤ 1000000
   pub some-cutoff : 1 ≤ r .cutoff
@@ -34,7 +40,7 @@ pub record PermittedSupply (r : SupplyRow) : Type 0 where
   pub supplier : r .supplier ≤ 999
   pub some-mw : 1 ≤ r .mw
   pub mw : r .mw ≤ 100000
-  pub cost : r .cost ≤ 200000
+  pub cost : r .cost ≤ highestCost
   pub dfax : r .dfax ≤ 20000
 
 pub record PermittedSchedule (r : ScheduleRow) : Type 0 where
@@ -43,9 +49,9 @@ pub record PermittedSchedule (r : ScheduleRow) : Type 0 where
   pub some-schedule : 1 ≤ r .schedule
   pub schedule : r .schedule ≤ 99
   pub kind : (r .kind ≡ C) ⊎ (r .kind ≡ M)
-  pub hour : r .hour ≤ lastHour
+  pub hour : r .hour ≤ latestHour
   pub ecomin : r .ecomin ≤ 100000
-  pub price : r .price ≤ 200000
+  pub price : r .price ≤ highestCost
   pub noload : r .noload ≤ 100000000
   pub startup : r .startup ≤ 100000000
   pub some-minrun : 1 ≤ r .minrun

@@ -6,13 +6,9 @@ use mathlib.Core.List.{List, [], _∷_, map}
 use lib.Dec.{eqb}
 use lib.ListN.{getD, take, drop}
 use Rattle.tables.specs.Table.{M, C}
+use Rattle.tables.specs.declared.constraint.ConstraintRow.{ConstraintRow}
 use Rattle.tables.specs.declared.files.Kind.{Kind}
 use Rattle.tables.specs.declared.files.Kind.the-variants.{M as KindM, C as KindC}
-
-pub record ConstraintRow : Type 0 where
-  pub hour : ℕ
-  pub relief : ℕ
-  pub cutoff : ℕ
 
 pub record SupplyRow : Type 0 where
   pub unit : ℕ

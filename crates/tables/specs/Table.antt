@@ -37,10 +37,17 @@ M = 0x4D
 abbrev pub C : ℕ
 C = 0x43
 
+-- the maximum of the hours, and of costs and prices
+abbrev pub latestHour : ℕ
+latestHour = 23
+
+abbrev pub highestCost : ℕ
+highestCost = 200000
+
 -- Behind each column its unit of measure.
 unfoldable pub constraintColumns : List Column
 constraintColumns =
-    column "hour" numeral 0 23  -- hours
+    column "hour" numeral 0 latestHour  -- hours
     ∷ column "relief" numeral 1 1000000  -- tenths of a MW
     ∷ column "cutoff" numeral 1 10000  -- ten-thousandths
     ∷ []
@@ -50,7 +57,7 @@ supplyColumns =
     column "unit" numeral 1 9999  -- a number
     ∷ column "supplier" numeral 1 999  -- a number
     ∷ column "mw" numeral 1 100000  -- tenths of a MW
-    ∷ column "cost" numeral 0 200000  -- cents per MWh
+    ∷ column "cost" numeral 0 highestCost  -- cents per MWh
     ∷ column "dfax" signed 10000 10000  -- ten-thousandths, from -10000
     ∷ []
 
@@ -59,9 +66,9 @@ schedulesColumns =
     column "unit" numeral 1 9999  -- a number
     ∷ column "schedule" numeral 1 99  -- a number
     ∷ column "kind" letter C M  -- a letter
-    ∷ column "hour" numeral 0 23  -- hours
+    ∷ column "hour" numeral 0 latestHour  -- hours
     ∷ column "ecomin" numeral 0 100000  -- tenths of a MW
-    ∷ column "price" numeral 0 200000  -- cents per MWh
+    ∷ column "price" numeral 0 highestCost  -- cents per MWh
     ∷ column "noload" numeral 0 100000000  -- cents per hour
     ∷ column "startup" numeral 0 100000000  -- cents
     ∷ column "minrun" numeral 1 24  -- hours
@@ -76,6 +83,10 @@ table Schedules = record { number = 3; columns = schedulesColumns; fewestRows = 
 unfoldable pub allColumns : List Column
 allColumns = constraintColumns ++ supplyColumns ++ schedulesColumns
 
+-- how many they are
+abbrev pub columnCount : ℕ
+columnCount = 17
+
 -- where those of a file begin
 abbrev pub firstColumn : File → ℕ
 firstColumn Constraint = 0
@@ -88,10 +99,20 @@ columnAt i = getD allColumns i (column "" numeral 0 0)
 unfoldable pub header : File → List (List ℕ)
 header f = map (λ (c : Column). c .name) (table f .columns)
 
+-- texts with a COMMA between each two
+unfoldable pub joined : List (List ℕ) → List ℕ
+joined [] = []
+joined (v ∷ []) = v
+joined (v ∷ w ∷ vs) = v ++ 0x2C ∷ joined (w ∷ vs)
+
+-- a header's record, with the CR LF behind it
+unfoldable pub headerText : File → List ℕ
+headerText f = joined (header f) ++ 0x0D ∷ 0x0A ∷ []
+
 unfoldable pub width : File → ℕ
 width f = length (table f .columns)
 
 -- opens all of the above, for examples that compute
 unfoldable pub table·all : Unit {0}
-unfolding constraintColumns supplyColumns schedulesColumns allColumns columnAt header width
+unfolding constraintColumns supplyColumns schedulesColumns allColumns columnAt header joined headerText width
 table·all = tt

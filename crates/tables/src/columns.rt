@@ -2,13 +2,20 @@
 ghost use mathlib.Core.Path.{_≡_};
 ghost use Prim.Native.Nat.{_+_, _<_, _^_};
 ghost use Rattle.numeral.specs.Answers.{answer};
-ghost use Rattle.tables.specs.Table.{firstColumn, columnAt};
+ghost use Rattle.tables.specs.Table.{columnCount, firstColumn, columnAt};
 ghost use Rattle.tables.specs.Values.{value, excess as Values·excess, oneOf};
 use crate::files::File;
+use crate::kinds::C;
+use crate::kinds::M;
 use numeral::Answer;
 
 // The columns of the three files, one file behind the other.
 const COLUMNS: usize = 17;
+
+// The maximum of the hours, and of costs and prices.
+const LATEST_HOUR: u64 = 23;
+
+const HIGHEST_COST: u64 = 200000;
 
 // A numeral.
 pub const NUMERAL: u8 = 0;
@@ -54,7 +61,7 @@ pub const MINIMUM: [u64; COLUMNS] = [
     // unit, schedule, kind, hour, ecomin, price, noload, startup, minrun
     1,
     1,
-    0x43,
+    C,
     0,
     0,
     0,
@@ -65,22 +72,22 @@ pub const MINIMUM: [u64; COLUMNS] = [
 
 pub const MAXIMUM: [u64; COLUMNS] = [
     // hour, relief, cutoff
-    23,
+    LATEST_HOUR,
     1000000,
     10000,
     // unit, supplier, mw, cost, dfax
     9999,
     999,
     100000,
-    200000,
+    HIGHEST_COST,
     10000,
     // unit, schedule, kind, hour, ecomin, price, noload, startup, minrun
     9999,
     99,
-    0x4D,
-    23,
+    M,
+    LATEST_HOUR,
     100000,
-    200000,
+    HIGHEST_COST,
     100000000,
     100000000,
     24,
@@ -101,7 +108,7 @@ pub fn first_column(file: File) -> usize
 
 // The cell of a field in a column, by its text without the quotes around it.
 pub fn cell(column: usize, text: &[u8]) -> Answer
-    requires { ⌜ column < 17 ⌝ }
+    requires { ⌜ column < columnCount ⌝ }
     ensures { λ r. ⌜ r ≡ answer (value (columnAt column) (now (text .entry))) ⌝ }
 {
     let form = FORM[column];

@@ -8,8 +8,17 @@ ghost use Rattle.csv.specs.Fields.{extent, inner, unread};
 ghost use Rattle.tables.specs.Laying.{HeaderRead, FieldsCompared};
 ghost use lib.ListN.{take};
 use crate::files::File;
+use crate::files::width;
 use crate::rows::both;
 use texts::same_text;
+
+// The header record of each file.
+pub const CONSTRAINT_HEADER: [u8; 20] = *b"hour,relief,cutoff\r\n";
+
+pub const SUPPLY_HEADER: [u8; 28] = *b"unit,supplier,mw,cost,dfax\r\n";
+
+pub const SCHEDULES_HEADER: [u8; 60] =
+    *b"unit,schedule,kind,hour,ecomin,price,noload,startup,minrun\r\n";
 
 // A header that was read: whether every field has its name, and where the first row begins.
 pub struct Header {
@@ -21,13 +30,9 @@ pub fn read_header(file: File, s: &[u8]) -> Header
     ensures { λ r. ⌜ HeaderRead file (now (s .entry)) r ⌝ }
 {
     match file {
-        File::Constraint => compare_fields(s, b"hour,relief,cutoff", 3),
-        File::Supply => compare_fields(s, b"unit,supplier,mw,cost,dfax", 5),
-        File::Schedules => compare_fields(
-            s,
-            b"unit,schedule,kind,hour,ecomin,price,noload,startup,minrun",
-            9,
-        ),
+        File::Constraint => compare_fields(s, &CONSTRAINT_HEADER, width(file)),
+        File::Supply => compare_fields(s, &SUPPLY_HEADER, width(file)),
+        File::Schedules => compare_fields(s, &SCHEDULES_HEADER, width(file)),
     }
 }
 

@@ -6,7 +6,7 @@ ghost use Prim.Native.Nat.{_*_, _≤_, _<_};
 ghost use lib.Dec.{eqb};
 ghost use lib.ListN.{length};
 ghost use Rattle.base.specs.Search.{one};
-ghost use Rattle.tables.specs.Table.{width as Table·width};
+ghost use Rattle.tables.specs.Table.{columnCount, width as Table·width};
 ghost use Rattle.tables.specs.Laying.{FieldRead, RowLaid, RowsLaid};
 use crate::columns::cell;
 use crate::columns::first_column;
@@ -91,7 +91,7 @@ pub fn both(a: bool, b: bool) -> bool
 }
 
 fn read_field(column: usize, s: &[u8]) -> Field
-    requires { ⌜ column < 17 ⌝ }
+    requires { ⌜ column < columnCount ⌝ }
     ensures { λ r. ⌜ FieldRead column (now (s .entry)) r ⌝ }
 {
     let n = csv::field_length(s);

@@ -22,7 +22,7 @@ part-print-start c = search needs
 part-print-end : tie.Need-part-print-end
 part-print-end c =
     let studies = c .before .before .before .before .before .before .study .ensures .0 in
-    let within = written-within _ _ _ _ _ _ _ studies _ (c .before .before .outcome .given .1) in
+    let within = written-within _ _ _ _ _ studies _ (c .before .before .outcome .given .1) in
     search (needs, within)
 
 print-requires : tie.Need-print-requires

@@ -1,6 +1,6 @@
 -- The length of a record by its numerals. Assumes nothing.
 use native.Mathlib.Omega.{arith}
-use Rattle.answer.specs.Rows.{rowAt}
+use Rattle.cells.specs.Views.{answerAt}
 use Rattle.answer.proofs.LineLaws.{line-length}
 use borrow.Author.Needs.{needs}
 use Rattle.answer.proofs.lengths.line_length.Statement.{statement}
@@ -45,7 +45,7 @@ returns c =
     let schedule = c .before .numeral-length4 .ensures in
     let cost = c .numeral-length5 .ensures in
     record {
-      counted = omega (arith, line-length (rowAt (start .cells .now) (start .i)));
+      counted = omega (arith, line-length (answerAt (start .cells .now) (start .i)));
       most = omega arith;
     }
 

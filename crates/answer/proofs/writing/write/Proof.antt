@@ -2,7 +2,8 @@
 use native.Mathlib.Omega.{arith}
 use lib.ListN.{length-drop}
 use Rattle.base.proofs.Lists.{rest-lent}
-use Rattle.judge.specs.Answer.{answerRows, answerText}
+use Rattle.cells.specs.Views.{answerRows}
+use Rattle.judge.specs.Answer.{answerText}
 use Rattle.answer.proofs.LineLaws.{text-parts}
 use Rattle.answer.proofs.WriteLaws.{wrote-next}
 use borrow.Author.Needs.{needs}

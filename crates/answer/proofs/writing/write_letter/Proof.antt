@@ -1,7 +1,8 @@
 -- A letter and the comma behind it. Assumes nothing.
+use Prim.Native.Nat.{_+_, _*_}
 use native.Mathlib.Omega.{arith}
 use lib.ListN.{getD, length-set}
-use Rattle.answer.specs.Rows.{rowCells}
+use Rattle.cells.specs.Views.{answerWidth}
 use Rattle.answer.proofs.LineLaws.{letter-length}
 use Rattle.answer.proofs.WriteLaws.{wrote-letter}
 use borrow.Author.Needs.{needs}
@@ -17,13 +18,13 @@ cast-out c = search needs
 slice-write-out : tie.Need-slice-write-out
 slice-write-out c =
     let start = c .before .before .before .args in
-    let two = letter-length (getD (rowCells (start .cells .now) (start .i)) (start .column) 0) in
+    let two = letter-length (getD (start .cells .now) ((start .i) * answerWidth + (start .column)) 0) in
     omega (arith, two)
 
 slice-write-out-2 : tie.Need-slice-write-out-2
 slice-write-out-2 c =
     let start = c .before .before .before .args in
-    let two = letter-length (getD (rowCells (start .cells .now) (start .i)) (start .column) 0) in
+    let two = letter-length (getD (start .cells .now) ((start .i) * answerWidth + (start .column)) 0) in
     simp length-set (omega (arith, two))
 
 same-length : tie.Need-same-length
@@ -32,7 +33,7 @@ same-length c = search needs
 returns : tie.Need-returns
 returns c =
     let start = c .before .before .before .args in
-    let two = letter-length (getD (rowCells (start .cells .now) (start .i)) (start .column) 0) in
+    let two = letter-length (getD (start .cells .now) ((start .i) * answerWidth + (start .column)) 0) in
     wrote-letter (c .cell .ensures) (omega arith) (omega (arith, two))
 
 pub write-letter-spec : {M : Type 1} → statement M

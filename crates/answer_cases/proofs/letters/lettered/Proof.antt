@@ -5,7 +5,7 @@ use native.Mathlib.Omega.{arith}
 use lib.ListN.{drop}
 use Rattle.base.specs.Search.{All}
 use Rattle.base.proofs.Tests.{false-true}
-use Rattle.judge.specs.Answer.{answerRows}
+use Rattle.cells.specs.Views.{answerRows}
 use Rattle.answer.specs.Rows.{Lettered}
 use Rattle.answer_cases.proofs.LetterLaws.{not-false, all-from-end, all-from}
 use Rattle.answer_cases.proofs.letters.lettered.Statement.{statement}

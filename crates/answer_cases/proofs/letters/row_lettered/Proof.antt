@@ -1,7 +1,6 @@
 -- The two letters of a row. Assumes nothing.
 use native.Mathlib.Omega.{arith}
 use Rattle.base.proofs.Tests.{false-true}
-use Rattle.tables.proofs.RowViews.{cell-at}
 use borrow.Author.Needs.{needs}
 use Rattle.answer_cases.proofs.letters.row_lettered.Statement.{statement}
 use Rattle.answer_cases.proofs.letters.row_lettered.Tie as tie
@@ -37,13 +36,7 @@ returns-2 : tie.Need-returns-2
 returns-2 c = λ e. false-true e
 
 returns-3 : tie.Need-returns-3
-returns-3 c =
-    let start = c .before .before .before .before .args in
-    λ e.
-    record {
-      verdict = rw (cell-at 7 (start .cells .now) (start .i) 2 (omega arith)) (omega arith);
-      kind = rw (cell-at 7 (start .cells .now) (start .i) 5 (omega arith)) (omega arith);
-    }
+returns-3 c = λ e. record { verdict = omega arith; kind = omega arith }
 
 pub row-lettered-spec : {M : Type 1} → statement M
 row-lettered-spec =

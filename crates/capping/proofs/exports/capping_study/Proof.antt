@@ -27,8 +27,8 @@ returns c =
     let told = c .before .before .before in
     let study = told .before .before .before in
     let fresh = study .before .before .fresh .ensures .0 in (
-      fresh-study _ _ _ _ _ _ fresh _ (study .study .ensures .0) (told .refusal-of .ensures) (c .count-of .ensures) (c .before .tell .ensures),
-      fresh-right _ _ _ _ _ (study .study .result) fresh (study .study .ensures .1) (c .count-of .ensures),
+      fresh-study _ _ _ _ fresh _ (study .study .ensures .0) (told .refusal-of .ensures) (c .count-of .ensures) (c .before .tell .ensures),
+      fresh-right _ _ _ (study .study .result) fresh (study .study .ensures .1) (c .count-of .ensures),
     )
 
 pub capping-study-spec : {M : Type 1} → statement M

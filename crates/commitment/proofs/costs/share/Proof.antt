@@ -1,8 +1,8 @@
 -- What a row adds to the cost of a run. Assumes nothing.
 use mathlib.Core.Path.{sym, _∙_}
 use native.Mathlib.Omega.{arith}
-use Rattle.commitment.proofs.CostLaws.{share-in, share-out, share-other}
 use borrow.Author.Needs.{needs}
+use Rattle.commitment.proofs.CostLaws.{share-unit, share-schedule, share-in, share-out}
 use Rattle.commitment.proofs.costs.share.Statement.{statement}
 use Rattle.commitment.proofs.costs.share.Tie as tie
 
@@ -12,11 +12,23 @@ cell-requires c κs = search needs
 cell-requires-2 : tie.Need-cell-requires-2
 cell-requires-2 c κs = search needs
 
+returns : tie.Need-returns
+returns c = share-unit _ _ _ _ (omega arith)
+
 cell-requires-3 : tie.Need-cell-requires-3
 cell-requires-3 c κs = search needs
 
 cell-requires-4 : tie.Need-cell-requires-4
 cell-requires-4 c κs = search needs
+
+returns-2 : tie.Need-returns-2
+returns-2 c = share-schedule _ _ _ _ (omega arith) (omega arith)
+
+cell-requires-5 : tie.Need-cell-requires-5
+cell-requires-5 c κs = search needs
+
+cell-requires-6 : tie.Need-cell-requires-6
+cell-requires-6 c κs = search needs
 
 in-run-requires : tie.Need-in-run-requires
 in-run-requires c κs = search needs
@@ -24,18 +36,11 @@ in-run-requires c κs = search needs
 hour-cost-requires : tie.Need-hour-cost-requires
 hour-cost-requires c κs = search needs
 
-returns : tie.Need-returns
-returns c =
-    let run = c .before .before in
-    c .hour-cost .ensures
-    ∙ sym (share-in _ _ _ (omega arith) (omega arith) (omega arith) (sym (run .in-run .ensures) ∙ c .before .if2 .taken))
-
-returns-2 : tie.Need-returns-2
-returns-2 c =
-    sym (share-out _ _ _ (omega arith) (omega arith) (omega arith) (sym (c .before .in-run .ensures) ∙ c .if2 .left))
-
 returns-3 : tie.Need-returns-3
-returns-3 c = sym (share-other _ _ _ (omega arith))
+returns-3 c = c .hour-cost .ensures ∙ sym (share-in _ _ _ _ (omega arith) (omega arith) (omega arith) (omega arith) (sym (c .before .before .in-run .ensures) ∙ c .before .if3 .taken))
+
+returns-4 : tie.Need-returns-4
+returns-4 c = sym (share-out _ _ _ _ (omega arith) (omega arith) (omega arith) (omega arith) (sym (c .before .in-run .ensures) ∙ c .if3 .left))
 
 pub share-spec : {M : Type 1} → statement M
 share-spec =
@@ -43,10 +48,13 @@ share-spec =
     (tie.spec
     cell-requires
     cell-requires-2
+    returns
     cell-requires-3
     cell-requires-4
+    returns-2
+    cell-requires-5
+    cell-requires-6
     in-run-requires
     hour-cost-requires
-    returns
-    returns-2
-    returns-3)
+    returns-3
+    returns-4)

@@ -5,9 +5,6 @@ use borrow.Author.Needs.{needs}
 use Rattle.decision.proofs.choosing.lacks_cost.Statement.{statement}
 use Rattle.decision.proofs.choosing.lacks_cost.Tie as tie
 
-day-kind-requires : tie.Need-day-kind-requires
-day-kind-requires c κs = search needs
-
 enum-told : tie.Need-enum-told
 enum-told c = search needs
 
@@ -21,23 +18,15 @@ has-any-requires : tie.Need-has-any-requires
 has-any-requires c κs = search needs
 
 returns : tie.Need-returns
-returns c = lacks-none _ _ _ _ (c .before .before .day-kind .ensures) _ (c .enum-told .given .1) refl
+returns c = lacks-none _ _ _ _ (c .enum-told .given .1) refl
 
 returns-2 : tie.Need-returns-2
-returns-2 c = lacks-none _ _ _ _ (c .before .before .day-kind .ensures) _ (c .enum-told2 .given .1) refl
+returns-2 c = lacks-none _ _ _ _ (c .enum-told2 .given .1) refl
 
 returns-3 : tie.Need-returns-3
-returns-3 c = lacks-on-cost _ _ _ _ (c .before .before .before .day-kind .ensures) (c .before .enum-told3 .given .1) (c .has-any .ensures)
+returns-3 c = lacks-on-cost _ _ _ (c .before .enum-told3 .given .1) (c .has-any .ensures)
 
 pub lacks-cost-spec : {M : Type 1} → statement M
 lacks-cost-spec =
     tie.close
-    (tie.spec
-    day-kind-requires
-    enum-told
-    enum-told-2
-    enum-told-3
-    has-any-requires
-    returns
-    returns-2
-    returns-3)
+    (tie.spec enum-told enum-told-2 enum-told-3 has-any-requires returns returns-2 returns-3)

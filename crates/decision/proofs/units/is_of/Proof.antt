@@ -7,6 +7,9 @@ use Rattle.decision.proofs.units.is_of.Tie as tie
 mul-result : tie.Need-mul-result
 mul-result c = search needs
 
+add-result : tie.Need-add-result
+add-result c = search needs
+
 mul-result-2 : tie.Need-mul-result-2
 mul-result-2 c = search needs
 
@@ -17,4 +20,5 @@ returns : tie.Need-returns
 returns c = of-unit (c .before .args .cells .now) (c .before .args .row) _
 
 pub is-of-spec : {M : Type 1} → statement M
-is-of-spec = tie.close (tie.spec mul-result mul-result-2 shared-slice-read-result returns)
+is-of-spec =
+    tie.close (tie.spec mul-result add-result mul-result-2 shared-slice-read-result returns)

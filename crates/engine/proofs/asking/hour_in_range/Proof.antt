@@ -1,8 +1,6 @@
--- An hour by its range. Assumes nothing.
-use mathlib.Core.Path.{sym}
-use borrow.Author.Needs.{needs}
+-- An hour by the range of its column. Assumes nothing.
 use Rattle.judge.specs.Day.{hourInRange}
-use Rattle.judge.proofs.DayRanges.{hour-range}
+use borrow.Author.Needs.{needs}
 use Rattle.engine.proofs.asking.hour_in_range.Statement.{statement}
 use Rattle.engine.proofs.asking.hour_in_range.Tie as tie
 
@@ -12,13 +10,21 @@ enum-told c = search needs
 enum-known-hour : tie.Need-enum-known-hour
 enum-known-hour c = search needs
 
+first-column-requires : tie.Need-first-column-requires
+first-column-requires c κs = search needs
+
+in-column-requires : tie.Need-in-column-requires
+in-column-requires c κs = search needs
+
 returns : tie.Need-returns
 unfolding hourInRange
 returns c = rw (c .enum-told .given .1)
 
 returns-2 : tie.Need-returns-2
 unfolding hourInRange
-returns-2 c = rw (c .before .hour .given .1) (sym (hour-range _))
+returns-2 c = rw (c .before .before .before .hour .given .1) (rw (c .before .first-column .ensures) at (c .in-column .ensures))
 
 pub hour-in-range-spec : {M : Type 1} → statement M
-hour-in-range-spec = tie.close (tie.spec enum-told enum-known-hour returns returns-2)
+hour-in-range-spec =
+    tie.close
+    (tie.spec enum-told enum-known-hour first-column-requires in-column-requires returns returns-2)

@@ -1,39 +1,34 @@
--- One case: the arrays have room for the longest files. Assumes nothing.
+-- The arrays have room for the longest supply, and the market fits them. Assumes nothing.
 use native.Mathlib.Omega.{arith}
-use Rattle.filing.proofs.Rooms.{constraint-room, supply-room, schedules-room}
+use Rattle.filing.proofs.FiledLaws.{market-fits}
+use Rattle.filing.proofs.Rooms.{supply-room}
 use borrow.Author.Needs.{needs}
 use Rattle.filing_cases.proofs.report.case.Statement.{statement}
 use Rattle.filing_cases.proofs.report.case.Tie as tie
 
-slice-aggregate-file : tie.Need-slice-aggregate-file
-slice-aggregate-file c = search needs
+slice-aggregate-file-market : tie.Need-slice-aggregate-file-market
+slice-aggregate-file-market c = search needs
 
-slice-aggregate-file-2 : tie.Need-slice-aggregate-file-2
-slice-aggregate-file-2 c = search needs
+slice-aggregate-file-market-2 : tie.Need-slice-aggregate-file-market-2
+slice-aggregate-file-market-2 c = search needs
 
-slice-aggregate-file-3 : tie.Need-slice-aggregate-file-3
-slice-aggregate-file-3 c = search needs
+file-market-requires : tie.Need-file-market-requires
+file-market-requires c κs = (omega (arith, supply-room), omega arith)
 
-slice-aggregate-file-4 : tie.Need-slice-aggregate-file-4
-slice-aggregate-file-4 c = search needs
+enum-known-filing : tie.Need-enum-known-filing
+enum-known-filing c = search needs
 
-file-requires : tie.Need-file-requires
-file-requires c κs = (
-  omega (arith, constraint-room),
-  (omega (arith, supply-room), (omega (arith, schedules-room), omega arith)),
-)
+print-refusal-requires : tie.Need-print-refusal-requires
+print-refusal-requires c κs = search needs
 
-enum-known-filed : tie.Need-enum-known-filed
-enum-known-filed c = search needs
+enum-known-filing-2 : tie.Need-enum-known-filing-2
+enum-known-filing-2 c = search needs
 
-print-rows-requires : tie.Need-print-rows-requires
-print-rows-requires c κs = search needs
+slice-aggregate-with-market : tie.Need-slice-aggregate-with-market
+slice-aggregate-with-market c = search needs
 
-enum-known-filed-2 : tie.Need-enum-known-filed-2
-enum-known-filed-2 c = search needs
-
-print-three-requires : tie.Need-print-three-requires
-print-three-requires c κs = search needs
+with-market-requires : tie.Need-with-market-requires
+with-market-requires c κs = market-fits _ _ _ _ (c .before .before .before .before .before .before .file-market .ensures) _ (c .before .before .filing2 .given .1) (omega arith)
 
 returns : tie.Need-returns
 returns c = search needs
@@ -45,14 +40,13 @@ pub case-spec : {M : Type 1} → statement M
 case-spec =
     tie.close
     (tie.spec
-    slice-aggregate-file
-    slice-aggregate-file-2
-    slice-aggregate-file-3
-    slice-aggregate-file-4
-    file-requires
-    enum-known-filed
-    print-rows-requires
-    enum-known-filed-2
-    print-three-requires
+    slice-aggregate-file-market
+    slice-aggregate-file-market-2
+    file-market-requires
+    enum-known-filing
+    print-refusal-requires
+    enum-known-filing-2
+    slice-aggregate-with-market
+    with-market-requires
     returns
     returns-2)

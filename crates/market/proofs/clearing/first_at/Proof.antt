@@ -3,14 +3,14 @@ use Prim.Native.Nat.{_-_}
 use mathlib.Core.Path.{sym, _∙_}
 use native.Mathlib.Omega.{arith}
 use Rattle.market.specs.Narrowing.{eligibleAt, firstAt}
-use Rattle.offers.specs.Ranges.{cellsRow}
+use Rattle.cells.specs.Views.{supplyAt}
 use Rattle.offers.proofs.CellLaws.{row-cells}
 use Rattle.market.proofs.TryLaws.{Trying, trying-none, trying-next, trying-here, trying-over}
 use Rattle.market.proofs.clearing.first_at.Statement.{statement}
 use Rattle.market.proofs.clearing.first_at.Tie as tie
 
 abbrev Inv-loop : tie.InvT-loop
-Inv-loop cells n cutoff limit row₀ row = Trying n cells (eligibleAt cutoff (cellsRow cells limit)) row
+Inv-loop cells n cutoff limit row₀ row = Trying n cells (eligibleAt cutoff (supplyAt cells limit)) row
 
 abbrev μ-loop : tie.MeasureT-loop
 μ-loop cells n cutoff limit row₀ row = n - row

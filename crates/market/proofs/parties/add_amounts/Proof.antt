@@ -6,7 +6,7 @@ use borrow.Author.Needs.{needs}
 use Rattle.tables.specs.Rows.{supplyRows}
 use Rattle.market.specs.Parties.{amountOf}
 use Rattle.market.specs.Parts.{inPart}
-use Rattle.offers.specs.Ranges.{cellsRow}
+use Rattle.cells.specs.Views.{supplyAt}
 use Rattle.offers.proofs.CellLaws.{row-cells}
 use Rattle.market.proofs.ListingLaws.{Filling, filling-none, filling-next}
 use Rattle.market.proofs.parties.add_amounts.Statement.{statement}
@@ -14,7 +14,7 @@ use Rattle.market.proofs.parties.add_amounts.Tie as tie
 
 abbrev Inv-loop : tie.InvT-loop
 Inv-loop cells n cutoff clearing parties count out₀ i₀ out i =
-    (i ≤ count) × Filling (amountOf cutoff (cellsRow cells clearing) (supplyRows n cells)) parties out₀ out i
+    (i ≤ count) × Filling (amountOf cutoff (supplyAt cells clearing) (supplyRows n cells)) parties out₀ out i
 
 abbrev μ-loop : tie.MeasureT-loop
 μ-loop cells n cutoff clearing parties count out₀ i₀ out i = count - i

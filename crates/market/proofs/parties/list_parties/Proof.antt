@@ -18,9 +18,8 @@ loop-holds c = listing-none _ _ _ (c .before .before .pre .1)
 party-requires : tie.Need-party-requires Inv-loop μ-loop
 party-requires c κs = row-cells _ _ _ (c .before .before .before .before .pre .0) (omega arith)
 
-meet-requires : tie.Need-meet-requires Inv-loop μ-loop
-meet-requires c κs = let loop = c .before .before .before .loop in
-    listing-room _ _ _ _ (loop .row) (loop .count) (loop .inv) _ (omega arith) (c .before .party .ensures)
+insert-requires : tie.Need-insert-requires Inv-loop μ-loop
+insert-requires c κs = listing-room _ _ _ _ _ _ (c .before .before .before .loop .inv)
 
 add-row : tie.Need-add-row Inv-loop μ-loop
 add-row c = omega arith
@@ -30,7 +29,7 @@ loop-less c = omega arith
 
 loop-again : tie.Need-loop-again Inv-loop μ-loop
 loop-again c = let loop = c .before .before .before .before .before .before .loop in
-    listing-next _ _ _ _ (loop .row) (loop .count) (loop .inv) _ (omega arith) (c .before .before .before .before .party .ensures) _ _ (c .before .before .meet .ensures)
+    listing-next _ _ _ _ (loop .row) (loop .count) (loop .inv) _ (omega arith) (c .before .before .before .before .party .ensures) _ _ (c .before .before .insert .ensures)
 
 same-length : tie.Need-same-length Inv-loop μ-loop
 same-length c = listing-length _ _ _ _ _ _ (c .before .loop .inv)
@@ -46,7 +45,7 @@ list-parties-spec =
     μ-loop
     loop-holds
     party-requires
-    meet-requires
+    insert-requires
     add-row
     loop-less
     loop-again

@@ -21,7 +21,7 @@ add-amounts-requires : tie.Need-add-amounts-requires
 add-amounts-requires c κs =
     let listed = c .before .before .before in
     let start = listed .before .before .before in
-    let few = cells-parties _ _ (start .pre .0) 256 (omega arith) in
+    let few = cells-parties _ _ (start .pre .0) 257 (omega arith) in
     let count = listed .list-parties .ensures .counted in
     (start .pre .0, (omega arith, (omega (arith, count, few), omega (arith, count, few))))
 
@@ -40,7 +40,7 @@ slice-aggregate-print-tests-2 c = search needs
 print-tests-requires : tie.Need-print-tests-requires
 print-tests-requires c κs =
     let listed = c .before .before .before .before .before .before .before .before .before in
-    let few = cells-parties _ _ (listed .before .before .before .pre .0) 256 (omega arith) in
+    let few = cells-parties _ _ (listed .before .before .before .pre .0) 257 (omega arith) in
     let count = listed .list-parties .ensures .counted in
     (omega (arith, count, few), omega (arith, count, few))
 

@@ -1,7 +1,5 @@
 -- The effective cost of a row beside another's. Assumes nothing.
 use native.Mathlib.Omega.{arith}
-use lib.Seq.{getD-drop}
-use Prim.Native.Nat.{_*_}
 use Rattle.offers.proofs.CellLaws.{beside-cells}
 use Rattle.offers.proofs.RangeLaws.{beside-small}
 use borrow.Author.Needs.{needs}
@@ -22,7 +20,7 @@ shared-slice-read-cost c = search needs
 
 capped-requires : tie.Need-capped-requires
 capped-requires c κs = let start = c .before .before in
-    omega (arith, getD-drop (start .args .row * 5) (start .args .cells .now) 3 0, start .pre .1 .permitted .cost)
+    omega (arith, start .pre .1 .permitted .cost)
 
 abs-dfax-requires : tie.Need-abs-dfax-requires
 abs-dfax-requires c κs = search needs
@@ -32,12 +30,12 @@ mul-result c = let start = c .before .before .before .before in
     omega (
       arith,
       beside-small _ _ _ (start .pre .0 .permitted)
-          (beside-cells _ (start .args .row) (start .args .other) _ _ (c .before .capped .ensures .0) (c .abs-dfax .ensures)),
+          (beside-cells (start .args .cells .now) (start .args .row) (start .args .other) _ _ (c .before .capped .ensures .0) (c .abs-dfax .ensures)),
     )
 
 returns : tie.Need-returns
 returns c = let start = c .before .before .before .before in
-    beside-cells _ (start .args .row) (start .args .other) _ _ (c .before .capped .ensures .0) (c .abs-dfax .ensures)
+    beside-cells (start .args .cells .now) (start .args .row) (start .args .other) _ _ (c .before .capped .ensures .0) (c .abs-dfax .ensures)
 
 pub cost-beside-spec : {M : Type 1} → statement M
 cost-beside-spec =

@@ -23,10 +23,11 @@ abs-dfax-requires c κs = search needs
 
 mul-result : tie.Need-mul-result
 mul-result c = let start = c .before .before .before in
-    omega (arith, supply-cells _ (start .args .row) _ (c .abs-dfax .ensures), supply-small _ (start .pre .permitted))
+    omega (arith, supply-cells (start .args .cells .now) (start .args .row) _ (c .abs-dfax .ensures), supply-small _ (start .pre .permitted))
 
 returns : tie.Need-returns
-returns c = supply-cells _ (c .before .before .before .args .row) _ (c .abs-dfax .ensures)
+returns c = let start = c .before .before .before in
+    supply-cells (start .args .cells .now) (start .args .row) _ (c .abs-dfax .ensures)
 
 pub effective-supply-spec : {M : Type 1} → statement M
 effective-supply-spec =

@@ -1,7 +1,4 @@
 -- The supplier of a row. Assumes nothing.
-use Prim.Native.Nat.{_*_}
-use native.Mathlib.Omega.{arith}
-use lib.Seq.{getD-drop}
 use borrow.Author.Needs.{needs}
 use Rattle.offers.proofs.rows.supplier.Statement.{statement}
 use Rattle.offers.proofs.rows.supplier.Tie as tie
@@ -19,7 +16,7 @@ shared-slice-read-result : tie.Need-shared-slice-read-result
 shared-slice-read-result c = search needs
 
 returns : tie.Need-returns
-returns c = omega (arith, getD-drop (c .before .args .row * 5) (c .before .args .cells .now) 1 0)
+returns c = search needs
 
 pub supplier-spec : {M : Type 1} → statement M
 supplier-spec =

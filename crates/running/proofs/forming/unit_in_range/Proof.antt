@@ -1,27 +1,41 @@
--- A unit's numbers by their ranges. Assumes nothing.
-use native.Mathlib.Omega.{arith}
-use borrow.Author.Tests.{le-leb, lt-leb}
-use Rattle.judge.proofs.DayRanges.{unit-range}
+-- A unit's numbers by the ranges of their columns. Assumes nothing.
+use Rattle.judge.specs.Day.{unitInRange}
+use Rattle.running.proofs.FormingLaws.{range-unit, range-schedule}
+use borrow.Author.Needs.{needs}
 use Rattle.running.proofs.forming.unit_in_range.Statement.{statement}
 use Rattle.running.proofs.forming.unit_in_range.Tie as tie
 
+first-column-requires : tie.Need-first-column-requires
+first-column-requires c κs = search needs
+
+add-in-column : tie.Need-add-in-column
+add-in-column c = search needs
+
+in-column-requires : tie.Need-in-column-requires
+in-column-requires c κs = search needs
+
+add-in-column-2 : tie.Need-add-in-column-2
+add-in-column-2 c = search needs
+
+in-column-requires-2 : tie.Need-in-column-requires-2
+in-column-requires-2 c κs = search needs
+
 returns : tie.Need-returns
-returns c = simp (unit-range, lt-leb 1 (c .before .before .args .r .unit) (omega arith))
+unfolding unitInRange
+returns c = rw (← range-unit _ _ _ (c .before .before .before .first-column .ensures) (c .before .before .in-column .ensures), c .before .if1 .taken) (range-schedule _ _ _ (c .before .before .before .first-column .ensures) (c .in-column2 .ensures))
 
 returns-2 : tie.Need-returns-2
-returns-2 c =
-    let r = c .before .before .before .before .args .r in
-    simp (unit-range, le-leb 1 (r .unit) (omega arith), lt-leb (r .unit) 9999 (omega arith))
-
-returns-3 : tie.Need-returns-3
-returns-3 c =
-    let r = c .before .before .before .before .before .before .args .r in
-    simp (unit-range, le-leb 1 (r .unit) (omega arith), le-leb (r .unit) 9999 (omega arith), lt-leb 1 (r .schedule) (omega arith))
-
-returns-4 : tie.Need-returns-4
-returns-4 c =
-    let r = c .before .before .before .before .before .before .before .args .r in
-    simp (unit-range, le-leb 1 (r .unit) (omega arith), le-leb (r .unit) 9999 (omega arith), le-leb 1 (r .schedule) (omega arith))
+unfolding unitInRange
+returns-2 c = rw (← range-unit _ _ _ (c .before .before .first-column .ensures) (c .before .in-column .ensures), c .if1 .left)
 
 pub unit-in-range-spec : {M : Type 1} → statement M
-unit-in-range-spec = tie.close (tie.spec returns returns-2 returns-3 returns-4)
+unit-in-range-spec =
+    tie.close
+    (tie.spec
+    first-column-requires
+    add-in-column
+    in-column-requires
+    add-in-column-2
+    in-column-requires-2
+    returns
+    returns-2)

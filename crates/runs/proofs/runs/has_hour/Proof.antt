@@ -1,7 +1,7 @@
 -- Whether a schedule has a row for an hour, along the rows of its key. Assumes nothing.
 use Prim.Native.Nat.{ℕ}
 use mathlib.Core.Path.{sym, _∙_}
-use Rattle.tables.proofs.RowViews.{scheduleAt}
+use Rattle.cells.specs.Views.{scheduleAt}
 use Rattle.links.specs.Links.{Along}
 use Rattle.runs.specs.Steps.{atHour}
 use Rattle.links.proofs.LinkLaws.{along-here, along-less, along-next, along-over}
@@ -27,17 +27,14 @@ cell-requires-2 c κs = omega arith
 schedule-key-requires : tie.Need-schedule-key-requires Inv-loop μ-loop
 schedule-key-requires c κs = search needs
 
-add-left : tie.Need-add-left Inv-loop μ-loop
-add-left c = omega arith
+add-link-at : tie.Need-add-link-at Inv-loop μ-loop
+add-link-at c = omega arith
 
-mul-left : tie.Need-mul-left Inv-loop μ-loop
-mul-left c = omega arith
-
-shared-slice-read-left : tie.Need-shared-slice-read-left Inv-loop μ-loop
-shared-slice-read-left c = omega (arith, c .before .before .before .before .before .before .pre .1 .0 .room)
+link-at-requires : tie.Need-link-at-requires Inv-loop μ-loop
+link-at-requires c κs = omega (arith, c .before .before .before .before .before .pre .1 .0 .room)
 
 loop-holds : tie.Need-loop-holds Inv-loop μ-loop
-loop-holds c = let key = c .before .schedule-key .ensures in let a = c .before .before .before .before .before .before .args in along-schedule (a .cells .now) _ (a .k) _ _ _ (c .before .before .before .before .before .before .pre .1 .0) (key .0 ∙ rw (c .before .before .cell2 .ensures, c .before .before .before .cell .ensures)) (key .1)
+loop-holds c = rw (c .link-at .ensures) (let key = c .before .schedule-key .ensures in let a = c .before .before .before .before .before .before .args in along-schedule (a .cells .now) _ (a .k) _ _ _ (c .before .before .before .before .before .before .pre .1 .0) (key .0 ∙ rw (c .before .before .cell2 .ensures, c .before .before .before .cell .ensures)) (key .1))
 
 sub-j : tie.Need-sub-j Inv-loop μ-loop
 sub-j c = omega arith
@@ -48,17 +45,14 @@ is-at-requires c κs = omega arith
 returns : tie.Need-returns Inv-loop μ-loop
 returns c = along-here _ _ _ _ (c .before .before .before .loop .inv) (c .before .before .loop-test .taken) (sym (c .before .is-at .ensures) ∙ c .if1 .taken) ∙ sym (rows-any _ _ _)
 
-mul-left-2 : tie.Need-mul-left-2 Inv-loop μ-loop
-mul-left-2 c = omega arith
-
-shared-slice-read-left-2 : tie.Need-shared-slice-read-left-2 Inv-loop μ-loop
-shared-slice-read-left-2 c = omega (arith, c .before .before .before .before .loop .inv .leads .room)
+link-at-requires-2 : tie.Need-link-at-requires-2 Inv-loop μ-loop
+link-at-requires-2 c κs = omega (arith, c .before .before .before .loop .inv .leads .room)
 
 loop-less : tie.Need-loop-less Inv-loop μ-loop
-loop-less c = along-less _ _ _ _ (c .before .before .before .before .loop .inv) (c .before .before .before .loop-test .taken)
+loop-less c = rw (c .link-at2 .ensures) (along-less _ _ _ _ (c .before .before .before .before .loop .inv) (c .before .before .before .loop-test .taken))
 
 loop-again : tie.Need-loop-again Inv-loop μ-loop
-loop-again c = along-next _ _ _ _ (c .before .before .before .before .loop .inv) (c .before .before .before .loop-test .taken) (sym (c .before .before .is-at .ensures) ∙ c .before .if1 .left)
+loop-again c = rw (c .link-at2 .ensures) (along-next _ _ _ _ (c .before .before .before .before .loop .inv) (c .before .before .before .loop-test .taken) (sym (c .before .before .is-at .ensures) ∙ c .before .if1 .left))
 
 returns-2 : tie.Need-returns-2 Inv-loop μ-loop
 returns-2 c = along-over _ _ _ _ (c .before .loop .inv) (c .loop-test .left) ∙ sym (rows-any _ _ _)
@@ -72,15 +66,13 @@ has-hour-spec =
     cell-requires
     cell-requires-2
     schedule-key-requires
-    add-left
-    mul-left
-    shared-slice-read-left
+    add-link-at
+    link-at-requires
     loop-holds
     sub-j
     is-at-requires
     returns
-    mul-left-2
-    shared-slice-read-left-2
+    link-at-requires-2
     loop-less
     loop-again
     returns-2)

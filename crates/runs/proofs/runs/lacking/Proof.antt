@@ -10,10 +10,10 @@ use Rattle.runs.proofs.runs.lacking.Statement.{statement}
 use Rattle.runs.proofs.runs.lacking.Tie as tie
 
 abbrev Inv-loop : tie.InvT-loop
-Inv-loop cells n by-unit by-schedule units count hour i₀ i = Finding (λ (u : ℕ). lacks hour (own u (scheduleRows n cells))) units count i
+Inv-loop cells n links units count hour i₀ i = Finding (λ (u : ℕ). lacks hour (own u (scheduleRows n cells))) units count i
 
 abbrev μ-loop : tie.MeasureT-loop
-μ-loop cells n by-unit by-schedule units count hour i₀ i = count - i
+μ-loop cells n links units count hour i₀ i = count - i
 
 loop-holds : tie.Need-loop-holds Inv-loop μ-loop
 loop-holds c = finding-none _ _ _ (omega arith)
@@ -25,7 +25,7 @@ shared-slice-read-unit : tie.Need-shared-slice-read-unit Inv-loop μ-loop
 shared-slice-read-unit c = omega arith
 
 lacks-requires : tie.Need-lacks-requires Inv-loop μ-loop
-lacks-requires c κs = let pre = c .before .before .before .before .before .before .before .pre in (pre .0, (pre .1 .0, (pre .1 .1 .0, pre .1 .1 .1 .1)))
+lacks-requires c κs = let pre = c .before .before .before .before .before .before .pre in (pre .0, (pre .1 .0, pre .1 .1 .1))
 
 returns : tie.Need-returns Inv-loop μ-loop
 unfolding lacking

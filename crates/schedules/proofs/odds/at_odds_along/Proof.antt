@@ -14,14 +14,11 @@ Inv-loop cells k links left₀ left = Along (oddWith cells k) k links left
 abbrev μ-loop : tie.MeasureT-loop
 μ-loop cells k links left₀ left = left
 
-mul-left : tie.Need-mul-left Inv-loop μ-loop
-mul-left c = omega arith
-
-shared-slice-read-left : tie.Need-shared-slice-read-left Inv-loop μ-loop
-shared-slice-read-left c = omega arith
+link-at-requires : tie.Need-link-at-requires Inv-loop μ-loop
+link-at-requires c κs = omega arith
 
 loop-holds : tie.Need-loop-holds Inv-loop μ-loop
-loop-holds c = c .before .before .before .pre .1 .1
+loop-holds c = rw (c .link-at .ensures) (c .before .before .before .pre .1 .1)
 
 sub-j : tie.Need-sub-j Inv-loop μ-loop
 sub-j c = omega arith
@@ -32,17 +29,14 @@ at-odds-requires c κs = omega arith
 returns : tie.Need-returns Inv-loop μ-loop
 returns c = along-here _ _ _ _ (c .before .before .before .loop .inv) (c .before .before .loop-test .taken) (sym (c .before .at-odds .ensures) ∙ c .if1 .taken) ∙ sym (earlier-any _ _ _)
 
-mul-left-2 : tie.Need-mul-left-2 Inv-loop μ-loop
-mul-left-2 c = omega arith
-
-shared-slice-read-left-2 : tie.Need-shared-slice-read-left-2 Inv-loop μ-loop
-shared-slice-read-left-2 c = omega arith
+link-at-requires-2 : tie.Need-link-at-requires-2 Inv-loop μ-loop
+link-at-requires-2 c κs = omega arith
 
 loop-less : tie.Need-loop-less Inv-loop μ-loop
-loop-less c = along-less _ _ _ _ (c .before .before .before .before .loop .inv) (c .before .before .before .loop-test .taken)
+loop-less c = rw (c .link-at2 .ensures) (along-less _ _ _ _ (c .before .before .before .before .loop .inv) (c .before .before .before .loop-test .taken))
 
 loop-again : tie.Need-loop-again Inv-loop μ-loop
-loop-again c = along-next _ _ _ _ (c .before .before .before .before .loop .inv) (c .before .before .before .loop-test .taken) (sym (c .before .before .at-odds .ensures) ∙ c .before .if1 .left)
+loop-again c = rw (c .link-at2 .ensures) (along-next _ _ _ _ (c .before .before .before .before .loop .inv) (c .before .before .before .loop-test .taken) (sym (c .before .before .at-odds .ensures) ∙ c .before .if1 .left))
 
 returns-2 : tie.Need-returns-2 Inv-loop μ-loop
 returns-2 c = along-over _ _ _ _ (c .before .loop .inv) (c .loop-test .left) ∙ sym (earlier-any _ _ _)
@@ -53,14 +47,12 @@ at-odds-along-spec =
     (tie.spec
     Inv-loop
     μ-loop
-    mul-left
-    shared-slice-read-left
+    link-at-requires
     loop-holds
     sub-j
     at-odds-requires
     returns
-    mul-left-2
-    shared-slice-read-left-2
+    link-at-requires-2
     loop-less
     loop-again
     returns-2)

@@ -1,22 +1,22 @@
 -- The first row at odds with an earlier one. Assumes nothing.
 use Prim.Native.Nat.{_-_}
-use Rattle.links.proofs.LinkLaws.{linked-to}
+use Rattle.links.proofs.LinkLaws.{linked-to, rows-by-unit}
 use Rattle.schedules.proofs.OddsLaws.{Agreeing, agreeing-none, agreeing-here, agreeing-next, agreeing-over}
 use native.Mathlib.Omega.{arith}
 use Rattle.schedules.proofs.odds.schedules_at_odds.Statement.{statement}
 use Rattle.schedules.proofs.odds.schedules_at_odds.Tie as tie
 
 abbrev Inv-loop : tie.InvT-loop
-Inv-loop cells n by-unit by-schedule k₀ k = Agreeing n cells k
+Inv-loop cells n links k₀ k = Agreeing n cells k
 
 abbrev μ-loop : tie.MeasureT-loop
-μ-loop cells n by-unit by-schedule k₀ k = n - k
+μ-loop cells n links k₀ k = n - k
 
 loop-holds : tie.Need-loop-holds Inv-loop μ-loop
 loop-holds c = agreeing-none _ _
 
 at-odds-before-requires : tie.Need-at-odds-before-requires Inv-loop μ-loop
-at-odds-before-requires c κs = let pre = c .before .before .before .before .before .pre in (omega arith, (linked-to _ (pre .1 .0) (omega arith), linked-to _ (pre .1 .1) (omega arith)))
+at-odds-before-requires c κs = let pre = c .before .before .before .before .pre in (omega arith, (linked-to _ (rows-by-unit (pre .1)) (omega arith), linked-to _ (pre .1 .by-schedule) (omega arith)))
 
 add-result : tie.Need-add-result Inv-loop μ-loop
 add-result c = omega arith

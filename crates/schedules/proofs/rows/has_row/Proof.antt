@@ -2,7 +2,7 @@
 use Prim.Native.Nat.{ℕ}
 use mathlib.Core.Path.{sym, _∙_}
 use borrow.Author.Tests.{eq-eqb, ne-eqb}
-use Rattle.tables.proofs.RowViews.{scheduleAt}
+use Rattle.cells.specs.Views.{scheduleAt}
 use Rattle.schedules.specs.Answers.{isOf}
 use Rattle.links.specs.Links.{Along}
 use Rattle.schedules.proofs.SearchLaws.{along-unit, rows-any}
@@ -13,25 +13,22 @@ use Rattle.schedules.proofs.rows.has_row.Statement.{statement}
 use Rattle.schedules.proofs.rows.has_row.Tie as tie
 
 abbrev Inv-loop : tie.InvT-loop
-Inv-loop cells n by-unit unit left₀ left = Along (λ (j : ℕ). isOf unit (scheduleAt cells j)) n by-unit left
+Inv-loop cells n links unit left₀ left = Along (λ (j : ℕ). isOf unit (scheduleAt cells j)) n links left
 
 abbrev μ-loop : tie.MeasureT-loop
-μ-loop cells n by-unit unit left₀ left = left
+μ-loop cells n links unit left₀ left = left
 
 unit-key-requires : tie.Need-unit-key-requires Inv-loop μ-loop
 unit-key-requires c κs = search needs
 
-add-left : tie.Need-add-left Inv-loop μ-loop
-add-left c = omega arith
+add-link-at : tie.Need-add-link-at Inv-loop μ-loop
+add-link-at c = omega arith
 
-mul-left : tie.Need-mul-left Inv-loop μ-loop
-mul-left c = omega arith
-
-shared-slice-read-left : tie.Need-shared-slice-read-left Inv-loop μ-loop
-shared-slice-read-left c = omega (arith, c .before .before .before .before .pre .1 .room)
+link-at-requires : tie.Need-link-at-requires Inv-loop μ-loop
+link-at-requires c κs = omega (arith, c .before .before .before .pre .1 .room)
 
 loop-holds : tie.Need-loop-holds Inv-loop μ-loop
-loop-holds c = let key = c .before .unit-key .ensures in let a = c .before .before .before .before .args in along-unit (a .cells .now) _ (a .unit) _ _ _ (c .before .before .before .before .pre .1) (key .0) (key .1) (λ j e. e)
+loop-holds c = rw (c .link-at .ensures) (let key = c .before .unit-key .ensures in let a = c .before .before .before .before .args in along-unit (a .cells .now) _ (a .unit) _ _ _ (c .before .before .before .before .pre .1) (key .0) (key .1) (λ j e. e))
 
 sub-k : tie.Need-sub-k Inv-loop μ-loop
 sub-k c = omega arith
@@ -42,17 +39,14 @@ cell-requires c κs = omega arith
 returns : tie.Need-returns Inv-loop μ-loop
 returns c = along-here _ _ _ _ (c .before .before .before .loop .inv) (c .before .before .loop-test .taken) (eq-eqb _ _ (sym (c .before .cell .ensures) ∙ c .if1 .taken)) ∙ sym (rows-any _ _ _)
 
-mul-left-2 : tie.Need-mul-left-2 Inv-loop μ-loop
-mul-left-2 c = omega arith
-
-shared-slice-read-left-2 : tie.Need-shared-slice-read-left-2 Inv-loop μ-loop
-shared-slice-read-left-2 c = omega (arith, c .before .before .before .before .loop .inv .leads .room)
+link-at-requires-2 : tie.Need-link-at-requires-2 Inv-loop μ-loop
+link-at-requires-2 c κs = omega (arith, c .before .before .before .loop .inv .leads .room)
 
 loop-less : tie.Need-loop-less Inv-loop μ-loop
-loop-less c = along-less _ _ _ _ (c .before .before .before .before .loop .inv) (c .before .before .before .loop-test .taken)
+loop-less c = rw (c .link-at2 .ensures) (along-less _ _ _ _ (c .before .before .before .before .loop .inv) (c .before .before .before .loop-test .taken))
 
 loop-again : tie.Need-loop-again Inv-loop μ-loop
-loop-again c = along-next _ _ _ _ (c .before .before .before .before .loop .inv) (c .before .before .before .loop-test .taken) (ne-eqb _ _ (λ e. c .before .if1 .left (c .before .before .cell .ensures ∙ e)))
+loop-again c = rw (c .link-at2 .ensures) (along-next _ _ _ _ (c .before .before .before .before .loop .inv) (c .before .before .before .loop-test .taken) (ne-eqb _ _ (λ e. c .before .if1 .left (c .before .before .cell .ensures ∙ e))))
 
 returns-2 : tie.Need-returns-2 Inv-loop μ-loop
 returns-2 c = along-over _ _ _ _ (c .before .loop .inv) (c .loop-test .left) ∙ sym (rows-any _ _ _)
@@ -64,15 +58,13 @@ has-row-spec =
     Inv-loop
     μ-loop
     unit-key-requires
-    add-left
-    mul-left
-    shared-slice-read-left
+    add-link-at
+    link-at-requires
     loop-holds
     sub-k
     cell-requires
     returns
-    mul-left-2
-    shared-slice-read-left-2
+    link-at-requires-2
     loop-less
     loop-again
     returns-2)

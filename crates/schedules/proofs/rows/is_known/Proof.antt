@@ -10,20 +10,17 @@ use Rattle.schedules.proofs.rows.is_known.Tie as tie
 cell-requires : tie.Need-cell-requires
 cell-requires c κs = search needs
 
-mul-left : tie.Need-mul-left
-mul-left c = search needs
-
-shared-slice-read-left : tie.Need-shared-slice-read-left
-shared-slice-read-left c = omega (arith, c .before .before .before .before .before .pre .1 .0 .room)
+link-at-requires : tie.Need-link-at-requires
+link-at-requires c κs = search needs
 
 sub-cell : tie.Need-sub-cell
 sub-cell c = search needs
 
 cell-requires-2 : tie.Need-cell-requires-2
-cell-requires-2 c κs = omega (arith, linked-upto (c .before .before .before .before .before .before .pre .1 .0))
+cell-requires-2 c κs = omega (arith, linked-upto (c .before .before .before .before .before .before .pre .1 .0), c .before .link-at .ensures)
 
 returns : tie.Need-returns
-returns c = let a = c .before .before .before .before .before .before .before .before .args in repeats-known _ (a .cells .now) (a .k) (a .by-unit .now) (c .before .before .before .before .before .before .before .before .pre .1 .0) (c .before .before .before .before .before .before .before .before .pre .1 .1 .1) (omega arith) (omega arith)
+returns c = let a = c .before .before .before .before .before .before .before .before .args in repeats-known _ (a .cells .now) (a .k) (a .links .now) _ (c .before .before .before .link-at .ensures) (c .before .before .before .before .before .before .before .before .pre .1 .0) (c .before .before .before .before .before .before .before .before .pre .1 .1 .1) (omega arith) (omega arith)
 
 contains-requires : tie.Need-contains-requires
 contains-requires c κs = search needs
@@ -36,8 +33,7 @@ is-known-spec =
     tie.close
     (tie.spec
     cell-requires
-    mul-left
-    shared-slice-read-left
+    link-at-requires
     sub-cell
     cell-requires-2
     returns

@@ -1,23 +1,23 @@
 -- The first row of a unit that is not in supply. Assumes nothing.
 use Prim.Native.Nat.{_-_}
 use lib.ListN.{take}
-use Rattle.links.proofs.LinkLaws.{linked-to}
+use Rattle.links.proofs.LinkLaws.{linked-to, rows-by-unit}
 use Rattle.schedules.proofs.ScheduleLaws.{Known, known-none, known-here, known-next, known-over}
 use native.Mathlib.Omega.{arith}
 use Rattle.schedules.proofs.rows.strange.Statement.{statement}
 use Rattle.schedules.proofs.rows.strange.Tie as tie
 
 abbrev Inv-loop : tie.InvT-loop
-Inv-loop cells n by-unit units count k₀ k = Known n cells (take count units) k
+Inv-loop cells n links units count k₀ k = Known n cells (take count units) k
 
 abbrev μ-loop : tie.MeasureT-loop
-μ-loop cells n by-unit units count k₀ k = n - k
+μ-loop cells n links units count k₀ k = n - k
 
 loop-holds : tie.Need-loop-holds Inv-loop μ-loop
 loop-holds c = known-none _ _ _
 
 is-known-requires : tie.Need-is-known-requires Inv-loop μ-loop
-is-known-requires c κs = let pre = c .before .before .before .before .before .pre in (omega arith, (linked-to _ (pre .1 .0) (omega arith), (pre .1 .1, c .before .loop .inv .passed)))
+is-known-requires c κs = let pre = c .before .before .before .before .before .pre in (omega arith, (linked-to _ (rows-by-unit (pre .1 .0)) (omega arith), (pre .1 .1, c .before .loop .inv .passed)))
 
 add-result : tie.Need-add-result Inv-loop μ-loop
 add-result c = omega arith

@@ -5,16 +5,17 @@ use mathlib.Core.Bool.{not}
 use Rattle.tables.specs.Rows.{scheduleRows}
 use Rattle.schedules.specs.Answers.{hasRow}
 use Rattle.schedules.specs.Schedules.{unscheduled}
+use Rattle.links.proofs.LinkLaws.{rows-by-unit}
 use Rattle.schedules.proofs.ScheduleLaws.{Finding, finding-none, finding-here, finding-next, finding-over}
 use native.Mathlib.Omega.{arith}
 use Rattle.schedules.proofs.rows.unscheduled.Statement.{statement}
 use Rattle.schedules.proofs.rows.unscheduled.Tie as tie
 
 abbrev Inv-loop : tie.InvT-loop
-Inv-loop cells n by-unit units count i₀ i = Finding (λ (u : ℕ). not (hasRow u (scheduleRows n cells))) units count i
+Inv-loop cells n links units count i₀ i = Finding (λ (u : ℕ). not (hasRow u (scheduleRows n cells))) units count i
 
 abbrev μ-loop : tie.MeasureT-loop
-μ-loop cells n by-unit units count i₀ i = count - i
+μ-loop cells n links units count i₀ i = count - i
 
 loop-holds : tie.Need-loop-holds Inv-loop μ-loop
 loop-holds c = finding-none _ _ _ (omega arith)
@@ -26,7 +27,7 @@ shared-slice-read-unit : tie.Need-shared-slice-read-unit Inv-loop μ-loop
 shared-slice-read-unit c = omega arith
 
 has-row-requires : tie.Need-has-row-requires Inv-loop μ-loop
-has-row-requires c κs = let pre = c .before .before .before .before .before .before .pre in (pre .0, pre .1 .0)
+has-row-requires c κs = let pre = c .before .before .before .before .before .before .pre in (pre .0, rows-by-unit (pre .1 .0))
 
 returns : tie.Need-returns Inv-loop μ-loop
 unfolding unscheduled

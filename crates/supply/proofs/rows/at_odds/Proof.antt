@@ -1,6 +1,6 @@
 -- Two rows, by the three tests. Assumes nothing.
 use native.Mathlib.Omega.{arith}
-use Rattle.supply.specs.SupplyPromises.{rowAt}
+use Rattle.cells.specs.Views.{supplyAt}
 use Rattle.supply.proofs.SupplyLaws.{odds-unit, odds-supplier, odds-dfax}
 use borrow.Author.Needs.{needs}
 use Rattle.supply.proofs.rows.at_odds.Statement.{statement}
@@ -33,7 +33,7 @@ shared-slice-read-if1-2 c = search needs
 returns : tie.Need-returns
 returns c =
     let a = c .before .before .before .args in
-    odds-unit (rowAt (a .cells .now) (a .late)) (rowAt (a .cells .now) (a .early)) (omega arith)
+    odds-unit (supplyAt (a .cells .now) (a .late)) (supplyAt (a .cells .now) (a .early)) (omega arith)
 
 add-if2 : tie.Need-add-if2
 add-if2 c = search needs
@@ -56,7 +56,7 @@ shared-slice-read-if2-2 c = search needs
 returns-2 : tie.Need-returns-2
 returns-2 c =
     let a = c .before .before .before .before .before .before .args in
-    odds-supplier (rowAt (a .cells .now) (a .late)) (rowAt (a .cells .now) (a .early)) (omega arith) (omega arith)
+    odds-supplier (supplyAt (a .cells .now) (a .late)) (supplyAt (a .cells .now) (a .early)) (omega arith) (omega arith)
 
 add-result : tie.Need-add-result
 add-result c = search needs
@@ -79,7 +79,7 @@ shared-slice-read-result-2 c = search needs
 returns-3 : tie.Need-returns-3
 returns-3 c =
     let a = c .before .before .before .before .before .before .before .before .args in
-    odds-dfax (rowAt (a .cells .now) (a .late)) (rowAt (a .cells .now) (a .early)) (omega arith) (omega arith)
+    odds-dfax (supplyAt (a .cells .now) (a .late)) (supplyAt (a .cells .now) (a .early)) (omega arith) (omega arith)
 
 pub at-odds-spec : {M : Type 1} → statement M
 at-odds-spec =

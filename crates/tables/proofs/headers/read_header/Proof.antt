@@ -1,7 +1,8 @@
 -- Each file's header. Assumes nothing.
-use Rattle.tables.specs.Table.{width, constraintColumns, supplyColumns, schedulesColumns}
+use Rattle.tables.specs.Table.{header, joined, headerText, constraintColumns, supplyColumns, schedulesColumns}
 use Rattle.tables.specs.declared.files.File.the-variants.{Constraint, Supply, Schedules}
 use Rattle.tables.proofs.HeaderLaws.{header-read}
+use mathlib.Core.Path.{refl}
 use borrow.Author.Needs.{needs}
 use Rattle.tables.proofs.headers.read_header.Statement.{statement}
 use Rattle.tables.proofs.headers.read_header.Tie as tie
@@ -12,6 +13,9 @@ enum-told c = search needs
 slice-aggregate-compare-fields : tie.Need-slice-aggregate-compare-fields
 slice-aggregate-compare-fields c = search needs
 
+width-requires : tie.Need-width-requires
+width-requires c κs = search needs
+
 compare-fields-requires : tie.Need-compare-fields-requires
 compare-fields-requires c κs = search needs
 
@@ -20,6 +24,9 @@ enum-told-2 c = search needs
 
 slice-aggregate-compare-fields-2 : tie.Need-slice-aggregate-compare-fields-2
 slice-aggregate-compare-fields-2 c = search needs
+
+width-requires-2 : tie.Need-width-requires-2
+width-requires-2 c κs = search needs
 
 compare-fields-requires-2 : tie.Need-compare-fields-requires-2
 compare-fields-requires-2 c κs = search needs
@@ -30,20 +37,29 @@ enum-told-3 c = search needs
 slice-aggregate-compare-fields-3 : tie.Need-slice-aggregate-compare-fields-3
 slice-aggregate-compare-fields-3 c = search needs
 
+width-requires-3 : tie.Need-width-requires-3
+width-requires-3 c κs = search needs
+
 compare-fields-requires-3 : tie.Need-compare-fields-requires-3
 compare-fields-requires-3 c κs = search needs
 
 returns : tie.Need-returns
-unfolding width constraintColumns
-returns c = rw (c .before .before .enum-told .given .1) (header-read Constraint (c .compare-fields .ensures))
+unfolding headerText joined header constraintColumns
+returns c =
+    let is = c .before .before .before .enum-told .given .1 in
+    rw is (header-read Constraint (rw is at (c .before .width .ensures)) refl (c .compare-fields .ensures))
 
 returns-2 : tie.Need-returns-2
-unfolding width supplyColumns
-returns-2 c = rw (c .before .before .enum-told2 .given .1) (header-read Supply (c .compare-fields2 .ensures))
+unfolding headerText joined header supplyColumns
+returns-2 c =
+    let is = c .before .before .before .enum-told2 .given .1 in
+    rw is (header-read Supply (rw is at (c .before .width2 .ensures)) refl (c .compare-fields2 .ensures))
 
 returns-3 : tie.Need-returns-3
-unfolding width schedulesColumns
-returns-3 c = rw (c .before .before .enum-told3 .given .1) (header-read Schedules (c .compare-fields3 .ensures))
+unfolding headerText joined header schedulesColumns
+returns-3 c =
+    let is = c .before .before .before .enum-told3 .given .1 in
+    rw is (header-read Schedules (rw is at (c .before .width3 .ensures)) refl (c .compare-fields3 .ensures))
 
 pub read-header-spec : {M : Type 1} → statement M
 read-header-spec =
@@ -51,12 +67,15 @@ read-header-spec =
     (tie.spec
     enum-told
     slice-aggregate-compare-fields
+    width-requires
     compare-fields-requires
     enum-told-2
     slice-aggregate-compare-fields-2
+    width-requires-2
     compare-fields-requires-2
     enum-told-3
     slice-aggregate-compare-fields-3
+    width-requires-3
     compare-fields-requires-3
     returns
     returns-2

@@ -4,11 +4,9 @@ use mathlib.Core.Path.{sym, _∙_}
 use native.Mathlib.Omega.{arith}
 use borrow.Author.Needs.{needs}
 use Rattle.running.specs.View.{unitsOf}
-use Rattle.running.specs.Committing.{choices}
 use Rattle.running.proofs.ViewLaws.{counted, mapped}
 use Rattle.running.proofs.FormingLaws.{formed-few}
 use Rattle.running.proofs.CommitLaws.{
-  choices-length,
   Merging,
   merging-none,
   merging-room,
@@ -22,28 +20,28 @@ use Rattle.running.proofs.units.Units.merged.Statement.{statement}
 use Rattle.running.proofs.units.Units.merged.Tie as tie
 
 abbrev Inv-loop : tie.InvT-loop
-Inv-loop self rows n running₀ count₀ i₀ j₀ running count i j =
-    Merging (choices n rows) (unitsOf self) running count i j
+Inv-loop self chosen running₀ count₀ i₀ j₀ running count i j =
+    Merging (unitsOf chosen) (unitsOf self) running count i j
 
 abbrev μ-loop : tie.MeasureT-loop
-μ-loop self rows n running₀ count₀ i₀ j₀ running count i j = (self .count - i) + (n - j)
+μ-loop self chosen running₀ count₀ i₀ j₀ running count i j = (self .count - i) + (chosen .count - j)
 
 loop-holds : tie.Need-loop-holds Inv-loop μ-loop
 loop-holds c =
-    let start = c .before .before in
-    merging-none _ _ _ (search (needs, mapped)) (fits-few (start .args .n) _ _ (start .pre .0) (start .pre .1))
+    let start = c .before in
+    merging-none _ _ _ (search (needs, mapped)) (fits-few _ _ (start .pre .0) (start .pre .1 .1))
 
 is-left-requires : tie.Need-is-left-requires Inv-loop μ-loop
 is-left-requires c κs = tt
 
 turn-requires : tie.Need-turn-requires Inv-loop μ-loop
 turn-requires c κs =
-    let start = c .before .before .before .before .before in
+    let start = c .before .before .before .before in
     let loop = c .before .before .loop in
     let units = counted (start .args .self) in
-    let rows = choices-length (start .args .n) (start .args .rows .now) in
+    let choices = counted (start .args .chosen) in
     let left = some-left _ _ _ _ (sym (c .before .is-left .ensures) ∙ c .if1 .taken) (omega arith) (omega arith) in
-    (formed-few _ (start .pre .0), (start .pre .1, (omega arith, omega arith, omega arith)))
+    (formed-few _ (start .pre .0), (start .pre .1 .0, (start .pre .1 .1, (omega arith, omega arith, omega arith))))
 
 mul-running : tie.Need-mul-running Inv-loop μ-loop
 mul-running c = omega (arith, merging-room _ _ _ _ _ _ (c .before .before .before .before .loop .inv) _ (c .before .turn .ensures))
@@ -56,21 +54,21 @@ add-count c = omega (arith, merging-room _ _ _ _ _ _ (c .before .before .before 
 
 add-i : tie.Need-add-i Inv-loop μ-loop
 add-i c =
-    let start = c .before .before .before .before .before .before .before .before in
-    omega (arith, c .before .before .turn .ensures .units-upto, counted (start .args .self), formed-few _ (start .pre .0))
+    let start = c .before .before .before .before .before .before .before in
+    omega (arith, c .before .before .turn .ensures .running-upto, counted (start .args .self), formed-few _ (start .pre .0))
 
 add-j : tie.Need-add-j Inv-loop μ-loop
 add-j c =
-    let start = c .before .before .before .before .before .before .before .before .before in
-    omega (arith, c .before .before .before .turn .ensures .rows-upto, choices-length (start .args .n) (start .args .rows .now))
+    let start = c .before .before .before .before .before .before .before .before in
+    omega (arith, c .before .before .before .turn .ensures .chosen-upto, counted (start .args .chosen))
 
 loop-less : tie.Need-loop-less Inv-loop μ-loop
 loop-less c =
-    let start = c .before .before .before .before .before .before .before .before .before in
+    let start = c .before .before .before .before .before .before .before .before in
     let turn = c .before .before .before .turn .ensures in
     let units = counted (start .args .self) in
-    let rows = choices-length (start .args .n) (start .args .rows .now) in
-    omega (arith, turn .units-upto, turn .rows-upto, turn .goes-on)
+    let choices = counted (start .args .chosen) in
+    omega (arith, turn .running-upto, turn .chosen-upto, turn .goes-on)
 
 loop-again : tie.Need-loop-again Inv-loop μ-loop
 loop-again c =
@@ -79,10 +77,10 @@ loop-again c =
 returns : tie.Need-returns Inv-loop μ-loop
 unfolding unitsOf
 returns c =
-    let start = c .before .before .before .before .before in
+    let start = c .before .before .before .before in
     let loop = c .before .before .loop in
     let units = counted (start .args .self) in
-    let rows = choices-length (start .args .n) (start .args .rows .now) in
+    let choices = counted (start .args .chosen) in
     let done = none-left _ _ _ _ (sym (c .before .is-left .ensures) ∙ c .if1 .left) in
     merging-over _ _ _ _ _ _ (loop .inv) (omega arith) (omega arith)
 

@@ -1,0 +1,197 @@
+-- Laws of deciding: one for each way through the code, from what its steps answer to what was decided. Assumes nothing.
+use Prim.Native.Nat.{ℕ, _*_, _≤_, _<_}
+use mathlib.Core.Path.{_≡_, refl, sym, _∙_, ap}
+use mathlib.Core.Bool.{Bool, true, false, not}
+use mathlib.Core.List.{List, [], _∷_, map, append-assoc}
+use mathlib.Core.Option.{Option, none, some, Option·map}
+use native.Mathlib.Omega.{arith}
+use lib.Dec.{leb}
+use lib.ListN.{length, take}
+use borrow.Author.Tests.{le-leb, lt-leb}
+use Rattle.base.specs.Search.{firstOf}
+use Rattle.tables.specs.Reading.{refused}
+use Rattle.tables.specs.Rows.{SupplyRow, ScheduleRow}
+use Rattle.tables.specs.declared.constraint.ConstraintRow.{ConstraintRow}
+use Rattle.tables.specs.declared.files.File.the-variants.{Schedules}
+use Rattle.tables.specs.declared.files.Refusal.{Refusal}
+use Rattle.cells.specs.Views.{AnswerRow, answerRows, answerWidth}
+use Rattle.supply.specs.Supply.{units}
+use Rattle.filing.specs.Filing.{Files, constraintOf, supplyOf, schedulesOf, marketRefusals, schedulesRefusals, filingRefusals, filingRefusal}
+use Rattle.base.proofs.Searches.{first-of-none}
+use Rattle.base.proofs.FirstLaws.{first-of-one, first-of-here, first-of-later, first-of-part, first-of-rest}
+use Rattle.decision.specs.Deciding.{DecidesRows as RowsDecide}
+use Rattle.decision.specs.Units.{UnitsOf}
+use Rattle.decision.specs.declared.deciding.Decided.{Decided}
+use Rattle.decision.specs.declared.deciding.Decided.the-variants.{All as AllDecided, Costless}
+use Rattle.answer.proofs.StudyLetters.{decided-lettered}
+use Rattle.judge.specs.Day.{RunningUnit, mostRunning, dayFormed, stateRefused, unless, earlier, wouldRun}
+use Rattle.judge.specs.Decision.{decidedRow, decided, costless}
+use Rattle.judge.specs.Study.{crowding, rowsRefusals, studyRows, decisionRefusals, decisionRefusal}
+use Rattle.engine.specs.Deciding.{RowsReady, Laid, Decides, DecidesRows, DecidesMarket, DecidesStudy}
+use Rattle.engine.specs.View.{viewOf}
+use Rattle.engine.specs.declared.day.Day.{Day}
+use Rattle.engine.specs.declared.deciding.Deciding.{Deciding}
+use Rattle.engine.specs.declared.deciding.Deciding.the-variants.{Rows, Refused}
+use Rattle.engine.proofs.RefusalLaws.{unless-broken, unless-kept}
+
+module _ (o : Option Refusal) (hour : ℕ) (rows : List AnswerRow) (running : List RunningUnit) (new : List ℕ) where
+  pub decides-refused : (e : Refusal) (r : Deciding) → o ≡ some e → r ≡ Refused e → Decides o hour rows running new r
+  decides-refused e r is g =
+      record {
+        refuses = λ x f. cc;
+        decides = λ h k f. let z : _≡_ {A = ℕ} 0 1 = cc in absurd (omega arith);
+      }
+
+  pub decides-laid : (h k : ℕ) (r : Deciding) → r ≡ Rows h k → Laid o hour rows running new h k → Decides o hour rows running new r
+  decides-laid h k r g laid =
+      record {
+        refuses = λ x f. let z : _≡_ {A = ℕ} 0 1 = cc in absurd (omega arith);
+        decides =
+            λ i j f.
+            let same : h ≡ i = cc in
+            let alike : k ≡ j = cc in
+            rw (← same, ← alike) laid;
+      }
+
+units-decided :
+    (c : ConstraintRow) (rows : List SupplyRow) (scheduled : List ScheduleRow) (running : List RunningUnit) (us : List ℕ) →
+    map (λ (a : AnswerRow). a .unit) (map (decidedRow c rows scheduled running) us) ≡ us
+unfolding decidedRow
+units-decided c rows scheduled running [] = refl
+units-decided c rows scheduled running (u ∷ us) = ap (λ (l : List ℕ). u ∷ l) (units-decided c rows scheduled running us)
+
+-- as deciding answered
+module _
+    (c : ConstraintRow) (rows : List SupplyRow) (scheduled : List ScheduleRow) (running : List RunningUnit) (k : ℕ) (new : List ℕ) {r : Decided}
+    (decides : RowsDecide c rows scheduled running k new r)
+  where
+    pub was-costless : {u : ℕ} → r ≡ Costless u → costless (c .hour) rows scheduled running ≡ some u
+    was-costless {u} e = go (costless (c .hour) rows scheduled running) refl
+      where
+        go : (o : Option ℕ) → costless (c .hour) rows scheduled running ≡ o → costless (c .hour) rows scheduled running ≡ some u
+        go none f = let z : _≡_ {A = ℕ} 0 1 = cc (decides .answers, e, f) in absurd (omega arith)
+        go (some x) f = cc (decides .answers, e, f)
+
+    pub was-decided : r ≡ AllDecided → costless (c .hour) rows scheduled running ≡ none
+    was-decided e = go (costless (c .hour) rows scheduled running) refl
+      where
+        go : (o : Option ℕ) → costless (c .hour) rows scheduled running ≡ o → costless (c .hour) rows scheduled running ≡ none
+        go none f = f
+        go (some x) f = let z : _≡_ {A = ℕ} 0 1 = cc (decides .answers, e, f) in absurd (omega arith)
+
+    pub rows-ready :
+        (us : List ℕ) → UnitsOf k rows us → k * answerWidth ≤ length new → r ≡ AllDecided → (w : ℕ) → w ≡ wouldRun (take k us) running →
+        w ≤ mostRunning → RowsReady running k new
+    unfolding decided
+    rows-ready us of-supply room e w counted few =
+        let by-unit : map (λ (a : AnswerRow). a .unit) (answerRows k new) ≡ units rows = rw (decides .rows e) (units-decided c rows scheduled running (units rows)) in
+        record {
+          few = of-supply .few;
+          there = room;
+          lettered = rw (decides .rows e) (decided-lettered c rows scheduled running);
+          rising = rw by-unit (of-supply .rising);
+          fit = rw (by-unit, ← of-supply .listed) (omega (arith, counted));
+        }
+
+-- the rows of the files: 20, 21, 22
+module _ (day : Day) (c : ConstraintRow) (supply : List SupplyRow) (scheduled : List ScheduleRow) (new : List ℕ) (r : Deciding) where
+  pub rows-earlier :
+      {t : Bool} → t ≡ earlier (c .hour) (viewOf day .hour) → t ≡ true → r ≡ Refused (stateRefused 20) → DecidesRows day c supply scheduled new r
+  unfolding rowsRefusals
+  rows-earlier e f g =
+      decides-refused _ _ _ _ new (stateRefused 20) r
+      (first-of-here _ _ _ (unless-broken (not (earlier (c .hour) (viewOf day .hour))) 20 (ap not (sym e ∙ f))))
+      g
+
+  module _ {t : Bool} (e : t ≡ earlier (c .hour) (viewOf day .hour)) (timely : t ≡ false) where
+    in-time : unless (not (earlier (c .hour) (viewOf day .hour))) 20 ≡ none
+    in-time = unless-kept (not (earlier (c .hour) (viewOf day .hour))) 20 (ap not (sym e ∙ timely))
+
+    pub rows-costless :
+        (u : ℕ) → costless (c .hour) supply scheduled (viewOf day .running) ≡ some u → r ≡ Refused (refused 21 Schedules u) →
+        DecidesRows day c supply scheduled new r
+    unfolding rowsRefusals
+    rows-costless u f g =
+        decides-refused _ _ _ _ new (refused 21 Schedules u) r
+        (first-of-later _ _ in-time ∙ first-of-here _ _ _ (ap (Option·map (refused 21 Schedules)) f))
+        g
+
+    module _ (on-cost : costless (c .hour) supply scheduled (viewOf day .running) ≡ none) (w : ℕ) (counted : w ≡ wouldRun (units supply) (viewOf day .running)) where
+      crowd-left : firstOf (rowsRefusals (viewOf day) c supply scheduled) ≡ crowding (viewOf day) (units supply)
+      unfolding rowsRefusals
+      crowd-left =
+          first-of-later _ _ in-time ∙ first-of-later _ _ (ap (Option·map (refused 21 Schedules)) on-cost)
+          ∙ first-of-one (crowding (viewOf day) (units supply))
+
+      pub rows-crowded : mostRunning < w → r ≡ Refused (stateRefused 22) → DecidesRows day c supply scheduled new r
+      unfolding crowding
+      rows-crowded h g =
+          decides-refused _ _ _ _ new (stateRefused 22) r
+          (crowd-left
+          ∙ unless-broken (leb (wouldRun (units supply) (viewOf day .running)) mostRunning) 22 (lt-leb (wouldRun (units supply) (viewOf day .running)) mostRunning (omega (arith, counted))))
+          g
+
+      pub rows-laid :
+          w ≤ mostRunning → (k : ℕ) → r ≡ Rows (c .hour) k → answerRows k new ≡ decided c supply scheduled (viewOf day .running) →
+          RowsReady (viewOf day .running) k new → DecidesRows day c supply scheduled new r
+      unfolding crowding
+      rows-laid h k g laid ready =
+          decides-laid _ _ _ _ new (c .hour) k r g
+          (record {
+            accepted =
+                crowd-left
+                ∙ unless-kept (leb (wouldRun (units supply) (viewOf day .running)) mostRunning) 22 (le-leb (wouldRun (units supply) (viewOf day .running)) mostRunning (omega (arith, counted)));
+            at-hour = refl;
+            laid = laid;
+            ready = ready;
+          })
+
+-- schedules, for a market that is filed
+module _ (day : Day) (c : ConstraintRow) (supply : List SupplyRow) (h : List ℕ) (new : List ℕ) (r : Deciding) where
+  pub schedules-refused :
+      (e : Refusal) → firstOf (schedulesRefusals (c .hour) (units supply) h) ≡ some e → r ≡ Refused e → DecidesMarket day c supply h new r
+  schedules-refused e is g =
+      decides-refused _ _ _ _ new e r (first-of-part (schedulesRefusals (c .hour) (units supply) h) _ e is) g
+
+  pub schedules-decided :
+      firstOf (schedulesRefusals (c .hour) (units supply) h) ≡ none → (rows : List ScheduleRow) → rows ≡ schedulesOf h →
+      DecidesRows day c supply rows new r → DecidesMarket day c supply h new r
+  schedules-decided ok rows is decides =
+      rw (first-of-rest (schedulesRefusals (c .hour) (units supply) h) (rowsRefusals (viewOf day) c supply (schedulesOf h)) ok)
+      (rw is at decides)
+
+-- all files
+module _ (day : Day) (f : Files) (new : List ℕ) (r : Deciding) where
+  pub ill-formed : dayFormed (viewOf day) ≡ false → r ≡ Refused (stateRefused 24) → DecidesStudy day f new r
+  unfolding decisionRefusal decisionRefusals
+  ill-formed e g = decides-refused _ _ _ _ new (stateRefused 24) r (first-of-here _ _ _ (unless-broken (dayFormed (viewOf day)) 24 e)) g
+
+  module _ (formed : dayFormed (viewOf day) ≡ true) where
+    pub market-refused : (e : Refusal) → filingRefusal f ≡ some e → r ≡ Refused e → DecidesStudy day f new r
+    unfolding decisionRefusal decisionRefusals filingRefusal
+    market-refused e is g =
+        decides-refused _ _ _ _ new e r
+        (first-of-later _ _ (unless-kept (dayFormed (viewOf day)) 24 formed) ∙ first-of-part (filingRefusals f) _ e is)
+        g
+
+    pub market-decided :
+        firstOf (marketRefusals (f .constraint) (f .supply)) ≡ none → (c : ConstraintRow) → c ≡ constraintOf (f .constraint) →
+        (supply : List SupplyRow) → supply ≡ supplyOf (f .supply) → DecidesMarket day c supply (f .schedules) new r → DecidesStudy day f new r
+    unfolding decisionRefusal decisionRefusals filingRefusals studyRows
+    market-decided ok c constraint supply is decides =
+        rw (
+          first-of-later _ _ (unless-kept (dayFormed (viewOf day)) 24 formed),
+          append-assoc (marketRefusals (f .constraint) (f .supply)),
+          first-of-rest (marketRefusals (f .constraint) (f .supply)) _ ok,
+        )
+        (rw (constraint, is) at decides)
+
+-- a day of which something is decided is well-formed
+unless-none : (t : Bool) (n : ℕ) → unless t n ≡ none → t ≡ true
+unfolding unless
+unless-none true n e = refl
+unless-none false n e = let z : _≡_ {A = ℕ} 0 1 = cc in absurd (omega arith)
+
+pub decided-formed : (day : Day) (f : Files) → decisionRefusal (viewOf day) f ≡ none → dayFormed (viewOf day) ≡ true
+unfolding decisionRefusal decisionRefusals
+decided-formed day f e = unless-none (dayFormed (viewOf day)) 24 (first-of-none _ _ e .0)

@@ -1,0 +1,98 @@
+-- Laws of rules over schedule rows: what is at fault as the code has it, and the first
+-- of the rules beside a market that is broken. Assumes nothing.
+use Prim.Native.Nat.{ℕ}
+use mathlib.Core.Path.{_≡_, refl, sym, _∙_}
+use mathlib.Core.List.{List, [], _∷_}
+use mathlib.Core.Option.{Option, none, some, Option·map, Option·getD}
+use mathlib.Core.Logic.{⊎-elim}
+use native.Mathlib.Omega.{arith}
+use borrow.Author.Tests.{eq-eqb, ne-eqb}
+use Rattle.base.specs.Search.{firstOf}
+use Rattle.base.proofs.Tests.{eq-or-ne}
+use Rattle.tables.specs.Reading.{refused}
+use Rattle.tables.specs.Rows.{ScheduleRow}
+use Rattle.tables.specs.declared.files.File.the-variants.{Schedules}
+use Rattle.tables.specs.declared.files.Reading.{Reading}
+use Rattle.tables.specs.declared.files.Reading.the-variants.{Rows as RowsRead, Refused as NotRead}
+use Rattle.tables.specs.declared.files.Refusal.{Refusal}
+use Rattle.supply.proofs.UnitLaws.{place-is}
+use Rattle.schedules.specs.Answers.{lowestOf}
+use Rattle.schedules.specs.Schedules.{strange, unscheduled}
+use Rattle.schedules.specs.declared.rows.Lowest.{Lowest}
+use Rattle.schedules.proofs.PlaceLaws.{strange-none}
+use Rattle.runs.specs.Runs.{lacking}
+use Rattle.filing.specs.Alone.{rowsUnless}
+use Rattle.filing.specs.Filing.{besideRefusals}
+use Rattle.filing.specs.Rules.{faultIn, recordAt}
+use Rattle.base.proofs.FirstLaws.{first-of-one, first-of-here, first-of-later}
+
+pub some-none : {A : Type 0} {x : Refusal} → some x ≡ none → A
+some-none e = let z : _≡_ {A = ℕ} 0 1 = cc in absurd (omega arith)
+
+-- what is at fault
+pub record-at : (o : Option ℕ) (p : ℕ) → p ≡ Option·getD o 0 → (Option·getD o 0 ≡ 0 → o ≡ none) → recordAt p ≡ o
+record-at o p e no-place =
+    ⊎-elim
+    (λ z. rw (eq-eqb p 0 z, no-place (sym e ∙ z)))
+    (λ z. rw (ne-eqb p 0 z, place-is o p e z))
+    (eq-or-ne p 0)
+
+fault-lowest : (o : Option ℕ) → faultIn (lowestOf o) ≡ o
+fault-lowest none = refl
+fault-lowest (some u) = refl
+
+-- one rule, by a record or by the lowest unit
+module _ (n : ℕ) (fault : Lowest) (a : Reading) (us : List ℕ) (rs : List ScheduleRow) where
+  pub held-strange :
+      a ≡ rowsUnless (Option·map (refused 7 Schedules) (faultIn fault)) n → (p : ℕ) → p ≡ Option·getD (strange us rs) 0 →
+      faultIn fault ≡ recordAt p → a ≡ rowsUnless (Option·map (refused 7 Schedules) (strange us rs)) n
+  held-strange answered p told found = answered ∙ rw (found, record-at (strange us rs) p told (strange-none us rs))
+
+  pub held-unscheduled :
+      a ≡ rowsUnless (Option·map (refused 8 Schedules) (faultIn fault)) n → fault ≡ lowestOf (unscheduled us rs) →
+      a ≡ rowsUnless (Option·map (refused 8 Schedules) (unscheduled us rs)) n
+  held-unscheduled answered e = answered ∙ rw (e, fault-lowest (unscheduled us rs))
+
+  pub held-lacking :
+      (hour : ℕ) → a ≡ rowsUnless (Option·map (refused 9 Schedules) (faultIn fault)) n → fault ≡ lowestOf (lacking hour us rs) →
+      a ≡ rowsUnless (Option·map (refused 9 Schedules) (lacking hour us rs)) n
+  held-lacking hour answered e = answered ∙ rw (e, fault-lowest (lacking hour us rs))
+
+-- what an answer says of the refusal it goes by
+pub rows-answered : (o : Option Refusal) (n : ℕ) {m : ℕ} → rowsUnless o n ≡ RowsRead m → (o ≡ none) × (m ≡ n)
+rows-answered none n e = (refl, cc)
+rows-answered (some x) n e = let z : _≡_ {A = ℕ} 0 1 = cc in absurd (omega arith)
+
+pub refused-answered : (o : Option Refusal) (n : ℕ) {x : Refusal} → rowsUnless o n ≡ NotRead x → o ≡ some x
+refused-answered none n e = let z : _≡_ {A = ℕ} 0 1 = cc in absurd (omega arith)
+refused-answered (some y) n e = cc
+
+-- the rules one after the other
+module _
+    (hour : ℕ) (us : List ℕ) (rs : List ScheduleRow) (n : ℕ) {p : Reading}
+    (first : p ≡ rowsUnless (Option·map (refused 7 Schedules) (strange us rs)) n)
+  where
+    pub seventh-broken : {x : Refusal} → p ≡ NotRead x → NotRead x ≡ rowsUnless (firstOf (besideRefusals hour us rs)) n
+    unfolding besideRefusals
+    seventh-broken e = rw (first-of-here _ _ _ (refused-answered _ n (sym first ∙ e)))
+
+    module _
+        {m : ℕ} (e : p ≡ RowsRead m) {q : Reading}
+        (second : q ≡ rowsUnless (Option·map (refused 8 Schedules) (unscheduled us rs)) n)
+      where
+        eighth-first :
+            firstOf (besideRefusals hour us rs)
+            ≡ firstOf
+            (Option·map (refused 8 Schedules) (unscheduled us rs) ∷ Option·map (refused 9 Schedules) (lacking hour us rs) ∷ [])
+        unfolding besideRefusals
+        eighth-first = first-of-later _ _ (rows-answered _ n (sym first ∙ e) .0)
+
+        pub eighth-broken : {x : Refusal} → q ≡ NotRead x → NotRead x ≡ rowsUnless (firstOf (besideRefusals hour us rs)) n
+        eighth-broken f = rw (eighth-first ∙ first-of-here _ _ _ (refused-answered _ n (sym second ∙ f)))
+
+        pub ninth-held :
+            {k : ℕ} → q ≡ RowsRead k → {r : Reading} → r ≡ rowsUnless (Option·map (refused 9 Schedules) (lacking hour us rs)) n →
+            r ≡ rowsUnless (firstOf (besideRefusals hour us rs)) n
+        ninth-held f third =
+            third
+            ∙ rw (eighth-first ∙ first-of-later _ _ (rows-answered _ n (sym second ∙ f) .0) ∙ first-of-one _)

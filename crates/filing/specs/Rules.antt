@@ -1,0 +1,33 @@
+-- A rule over schedule rows as the code asks it: what is at fault, and the number of its refusal. Assumes nothing.
+use Prim.Native.Nat.{ℕ}
+use mathlib.Core.Bool.{cond}
+use mathlib.Core.List.{List}
+use mathlib.Core.Option.{Option, none, some}
+use lib.Dec.{eqb}
+use Rattle.tables.specs.Rows.{ScheduleRow}
+use Rattle.schedules.specs.Schedules.{strange, unscheduled}
+use Rattle.schedules.specs.declared.rows.Lowest.{Lowest}
+use Rattle.schedules.specs.declared.rows.Lowest.the-variants.{Number, Nothing}
+use Rattle.runs.specs.Runs.{lacking}
+use Rattle.filing.specs.declared.rules.Rule.{Rule}
+use Rattle.filing.specs.declared.rules.Rule.the-variants.{Strange, Unscheduled, Lacking}
+
+-- the record or unit at fault, as the code answers it
+abbrev pub faultIn : Lowest → Option ℕ
+faultIn (Number x) = some x
+faultIn Nothing = none
+
+-- the record at a place, where 0 is none
+abbrev pub recordAt : ℕ → Option ℕ
+recordAt place = cond (eqb place 0) none (some place)
+
+-- the rules beside a market
+abbrev pub ruleNumber : Rule → ℕ
+ruleNumber Strange = 7
+ruleNumber Unscheduled = 8
+ruleNumber Lacking = 9
+
+abbrev pub atFault : Rule → ℕ → List ℕ → List ScheduleRow → Option ℕ
+atFault Strange hour us rs = strange us rs
+atFault Unscheduled hour us rs = unscheduled us rs
+atFault Lacking hour us rs = lacking hour us rs

@@ -1,0 +1,87 @@
+// The rules that schedule rows keep beside a market: refusals 7, 8 and 9. Assumes rows that refusals
+// 1 to 6 have passed.
+ghost use mathlib.Core.Path.{_≡_};
+ghost use mathlib.Core.Option.{Option·map};
+ghost use Prim.Native.Nat.{_*_, _≤_};
+ghost use lib.ListN.{length, take};
+ghost use Rattle.base.specs.Search.{firstOf};
+ghost use Rattle.tables.specs.Reading.{refused as Reading·refused};
+ghost use Rattle.tables.specs.Rows.{scheduleRows};
+ghost use Rattle.tables.specs.declared.files.File.the-variants.{Schedules};
+ghost use Rattle.cells.specs.Views.{scheduleWidth};
+ghost use Rattle.links.specs.Links.{RowsLinked};
+ghost use Rattle.runs.specs.Ranges.{Checked};
+ghost use Rattle.filing.specs.Alone.{rowsUnless};
+ghost use Rattle.filing.specs.Rules.{ruleNumber, atFault};
+ghost use Rattle.filing.specs.Filing.{besideRefusals};
+use crate::answers::answer;
+use crate::answers::at_record;
+use crate::market::Market;
+use crate::refusals::LACKING;
+use crate::refusals::STRANGE;
+use crate::refusals::UNSCHEDULED;
+use runs::lacking;
+use schedules::strange;
+use schedules::unscheduled;
+use tables::Reading;
+
+pub enum Rule {
+    Strange,
+    Unscheduled,
+    Lacking,
+}
+
+// Holds n rows to the rules, in the order of their numbers.
+pub fn hold(market: Market, cells: &[u64], n: usize, links: &[u16], units: &[u64]) -> Reading
+    requires { ⌜ n * scheduleWidth ≤ length (now cells) ⌝ }
+    requires { ⌜ RowsLinked (now cells) n (now links) ⌝ }
+    requires { ⌜ market .units ≤ length (now units) ⌝ }
+    requires { ⌜ Checked (market .constraint .hour) (scheduleRows n (now cells)) ⌝ }
+    ensures { λ r. ⌜ r ≡ rowsUnless (firstOf (besideRefusals (market .constraint .hour) (take (market .units) (now (units .entry))) (scheduleRows n (now (cells .entry))))) n ⌝ }
+{
+    let first = hold_to(Rule::Strange, market, cells, n, links, units);
+    match first {
+        Reading::Refused(refusal) => Reading::Refused(refusal),
+        Reading::Rows(_) => {
+            let second = hold_to(Rule::Unscheduled, market, cells, n, links, units);
+            match second {
+                Reading::Refused(refusal) => Reading::Refused(refusal),
+                Reading::Rows(_) => hold_to(Rule::Lacking, market, cells, n, links, units),
+            }
+        }
+    }
+}
+
+// Holds n rows to one rule: 7 names the record at fault, 8 and 9 the lowest unit.
+fn hold_to(
+    rule: Rule,
+    market: Market,
+    cells: &[u64],
+    n: usize,
+    links: &[u16],
+    units: &[u64],
+) -> Reading
+    requires { ⌜ n * scheduleWidth ≤ length (now cells) ⌝ }
+    requires { ⌜ RowsLinked (now cells) n (now links) ⌝ }
+    requires { ⌜ market .units ≤ length (now units) ⌝ }
+    requires { ⌜ Checked (market .constraint .hour) (scheduleRows n (now cells)) ⌝ }
+    ensures { λ r. ⌜ r ≡ rowsUnless (Option·map (Reading·refused (ruleNumber rule) Schedules) (atFault rule (market .constraint .hour) (take (market .units) (now (units .entry))) (scheduleRows n (now (cells .entry))))) n ⌝ }
+{
+    match rule {
+        Rule::Strange => answer(
+            STRANGE,
+            at_record(strange(cells, n, links, units, market.units)),
+            n,
+        ),
+        Rule::Unscheduled => answer(
+            UNSCHEDULED,
+            unscheduled(cells, n, links, units, market.units),
+            n,
+        ),
+        Rule::Lacking => answer(
+            LACKING,
+            lacking(cells, n, links, units, market.units, market.constraint.hour),
+            n,
+        ),
+    }
+}

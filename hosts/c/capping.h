@@ -1,10 +1,10 @@
 /* The offer capping engine as C programs call it. Link with target/staticlib/libcapping.a, which `rt staticlib capping`
- * writes, for x86-64 Linux.
+ * writes, for x86-64 Linux. C++ programs may include this too.
  *
  * Holds for each call: a run of bytes or amounts is a pointer, then how many there are, and no pointer may be NULL, not even
  * with length 0. Everything belongs to the caller: what is const is only read, what isn't is written during the call, and
- * nothing is kept or freed. What is written may overlap nothing else that is lent to the same call. There is no state, so
- * threads may call at the same time. A call takes up to 264 KiB of stack.
+ * nothing is kept or freed. What is written may overlap nothing else that is lent to the same call. There is no state but the
+ * days that callers keep, so threads may call at the same time, on a day each. A call takes up to 128 KiB of stack.
  *
  * A file of length 0 is one record with one blank field. docs/REFUSALS.md says what each number means and how to mend it. */
 #ifndef CAPPING_H
@@ -24,6 +24,11 @@ extern "C" {
 #define CAPPING_P 0
 #define CAPPING_F 1
 #define CAPPING_TEST_REFUSED 11
+
+/* So many cells are a day, and so many units run at most. The cells grow when days learn more: a caller who goes through this
+ * constant and the functions below then compiles again and rewrites nothing. */
+#define CAPPING_DAY_CELLS 195
+#define CAPPING_DAY_UNITS 64
 
 /* Checks the three files of a study, each as its bytes.
  *
@@ -48,6 +53,99 @@ uint64_t capping_study(const uint8_t *constraint, size_t constraint_len,
  * Answers CAPPING_P or CAPPING_F and stores what is left without the supplier and its two largest others. With more than 32
  * amounts, an amount above 10^12 or no such place it answers CAPPING_TEST_REFUSED, and `left` stays as it was. */
 uint64_t capping_test(const uint64_t *amounts, size_t amounts_len, uint64_t place, uint64_t need, uint64_t *left);
+
+/* A day holds the hour of its last accepted study and the units that run. The caller keeps its cells and lends them to each
+ * call, which leaves there the day afterwards; a call that is refused leaves every cell as it was. Any cells whatever are a
+ * day: on one that is ill-formed (docs/REFUSALS.md, 24) the calls are refused, and the functions answer what stands there. */
+
+/* Makes the day fresh: no hour, and no unit runs. */
+void capping_day_fresh(uint64_t day[CAPPING_DAY_CELLS]);
+
+/* Studies the three files on the day, as capping_study does on a fresh one: the same answers, buffer and report. Accepted, the
+ * day's hour is the study's, and each of its units runs on the schedule chosen; the others run as they did. */
+uint64_t capping_day_study(uint64_t day[CAPPING_DAY_CELLS],
+                           const uint8_t *constraint, size_t constraint_len,
+                           const uint8_t *supply, size_t supply_len,
+                           const uint8_t *schedules, size_t schedules_len,
+                           uint8_t *answer, size_t answer_len,
+                           uint64_t report[3]);
+
+/* Takes a running unit out of the day, and changes nothing else.
+ *
+ * Answers 0, or the number of the refusal; the report is 0, 0, 0, or that number, 0 and 0. */
+uint64_t capping_day_release(uint64_t day[CAPPING_DAY_CELLS], uint64_t unit, uint64_t report[3]);
+
+/* Where in the cells what stands, for the functions below alone: three cells, then three for each unit. */
+enum {
+    CAPPING_CELL_HAS_HOUR,
+    CAPPING_CELL_HOUR,
+    CAPPING_CELL_COUNT,
+    CAPPING_CELL_UNITS,
+    CAPPING_CELLS_OF_UNIT = 3
+};
+
+/* Whether the day has an hour, which one (0 where it has none), and how many units run (in an ill-formed day any number). */
+static inline int capping_day_has_hour(const uint64_t *day) {
+    return day[CAPPING_CELL_HAS_HOUR] != 0;
+}
+
+static inline uint64_t capping_day_hour(const uint64_t *day) {
+    return capping_day_has_hour(day) ? day[CAPPING_CELL_HOUR] : 0;
+}
+
+static inline uint64_t capping_day_count(const uint64_t *day) {
+    return day[CAPPING_CELL_COUNT];
+}
+
+static inline uint64_t capping_day_cell(const uint64_t *day, uint64_t i, size_t which) {
+    if (i >= CAPPING_DAY_UNITS || i >= capping_day_count(day))
+        return 0;
+    return day[CAPPING_CELL_UNITS + i * CAPPING_CELLS_OF_UNIT + which];
+}
+
+/* Number, kind ('M' or 'C') and schedule of the i-th running unit, from 0, by rising number; 0 where there is no such unit. */
+static inline uint64_t capping_day_unit(const uint64_t *day, uint64_t i) {
+    return capping_day_cell(day, i, 0);
+}
+
+static inline char capping_day_kind(const uint64_t *day, uint64_t i) {
+    uint64_t kind = capping_day_cell(day, i, 1);
+    return (char)(kind == 'M' || kind == 'C' ? kind : 0);
+}
+
+static inline uint64_t capping_day_schedule(const uint64_t *day, uint64_t i) {
+    return capping_day_cell(day, i, 2);
+}
+
+/* Whether two days have the same hour, or none, and the same units running on the same schedules. */
+static inline int capping_day_equal(const uint64_t *a, const uint64_t *b) {
+    uint64_t i;
+    int equal = capping_day_has_hour(a) == capping_day_has_hour(b) && capping_day_hour(a) == capping_day_hour(b) &&
+                capping_day_count(a) == capping_day_count(b);
+    for (i = 0; i < CAPPING_DAY_UNITS; i++)
+        equal = equal && capping_day_unit(a, i) == capping_day_unit(b, i) && capping_day_kind(a, i) == capping_day_kind(b, i) &&
+                capping_day_schedule(a, i) == capping_day_schedule(b, i);
+    return equal;
+}
+
+/* To make a day that was written down: a fresh one, then its hour, where it has one, and its units, one after the other by
+ * rising number. What isn't so makes it ill-formed. A unit too many is counted and not kept. */
+static inline void capping_day_set_hour(uint64_t *day, uint64_t hour) {
+    day[CAPPING_CELL_HAS_HOUR] = 1;
+    day[CAPPING_CELL_HOUR] = hour;
+}
+
+static inline void capping_day_add(uint64_t *day, uint64_t unit, char kind, uint64_t schedule) {
+    uint64_t count = capping_day_count(day);
+    if (count < CAPPING_DAY_UNITS) {
+        uint64_t *cells = day + CAPPING_CELL_UNITS + count * CAPPING_CELLS_OF_UNIT;
+        cells[0] = unit;
+        cells[1] = (unsigned char)kind;
+        cells[2] = schedule;
+    }
+    if (count < UINT64_MAX)
+        day[CAPPING_CELL_COUNT] = count + 1;
+}
 
 #ifdef __cplusplus
 }

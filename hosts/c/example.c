@@ -1,6 +1,8 @@
-/* What a caller writes: the test of the last of four suppliers, and a study of three files that are read into memory. */
+/* What a caller writes: a day with a study of three files that are read into memory, what runs then, and the release of a unit;
+ * and the test of the last of four suppliers. */
 #include "capping.h"
 
+#include <inttypes.h>
 #include <stdio.h>
 
 #define FILE_ROOM 65536
@@ -15,15 +17,29 @@ static size_t read_file(const char *name, uint8_t *bytes) {
     return length;
 }
 
+static void print_day(const uint64_t *day) {
+    if (capping_day_has_hour(day))
+        printf("hour %" PRIu64 "\n", capping_day_hour(day));
+    for (uint64_t i = 0; i < capping_day_count(day); i++)
+        printf("unit %" PRIu64 " on %c schedule %" PRIu64 "\n", capping_day_unit(day, i), capping_day_kind(day, i),
+               capping_day_schedule(day, i));
+}
+
 int main(void) {
     static uint8_t c[FILE_ROOM], s[FILE_ROOM], h[FILE_ROOM];
     size_t c_len = read_file("constraint.csv", c), s_len = read_file("supply.csv", s), h_len = read_file("schedules.csv", h);
 
     uint8_t answer[CAPPING_LONGEST_ANSWER];
-    uint64_t report[3];
-    uint64_t count = capping_study(c, c_len, s, s_len, h, h_len, answer, sizeof answer, report);
+    uint64_t day[CAPPING_DAY_CELLS], report[3];
+    capping_day_fresh(day);
+    uint64_t count = capping_day_study(day, c, c_len, s, s_len, h, h_len, answer, sizeof answer, report);
     if (count == 0) printf("refused: %d, file %d, place %d\n", (int)report[0], (int)report[1], (int)report[2]);
     else fwrite(answer, 1, count, stdout);
+
+    print_day(day);
+    uint64_t lowest = capping_day_unit(day, 0);
+    if (capping_day_release(day, lowest, report) == 0)
+        printf("unit %" PRIu64 " is released, %" PRIu64 " run\n", lowest, capping_day_count(day));
 
     uint64_t amounts[] = {4, 3, 2, 1}, left;
     if (capping_test(amounts, 4, 3, 2, &left) == CAPPING_P) printf("P, left %d\n", (int)left);

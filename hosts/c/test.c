@@ -1,17 +1,8 @@
 /* Cases of the exported check, study and test, one for each number at least that a call can give. What each must answer was
  * worked from document 01. */
-#include "capping.h"
-
-#include <stdio.h>
-#include <stdlib.h>
-#include <string.h>
-
-#define CONSTRAINT "hour,relief,cutoff\r\n"
-#define SUPPLY "unit,supplier,mw,cost,dfax\r\n"
-#define SCHEDULES "unit,schedule,kind,hour,ecomin,price,noload,startup,minrun\r\n"
+#include "testing.h"
 
 /* Files that keep every rule. */
-#define HOUR_5 CONSTRAINT "5,1000,300\r\n"
 #define TWO_UNITS SUPPLY "11,1,1000,3000,5000\r\n12,2,1000,3000,-5000\r\n"
 #define ROW_OF_11 "11,1,M,5,100,4000,50000,20000,1\r\n"
 #define ROW_OF_12 "12,1,C,5,100,3000,0,0,1\r\n"
@@ -20,71 +11,48 @@
 struct example {
     const char *name;
     uint64_t number;
-    const char *constraint;
-    const char *supply;
-    const char *schedules;
+    struct files files;
 };
 
 static const struct example examples[] = {
-    {"all rules kept", 0, HOUR_5, TWO_UNITS, BOTH_UNITS},
-    {"no rows of supply and schedules", 0, HOUR_5, SUPPLY, SCHEDULES},
-    {"fields quoted, last record without CR LF", 0, CONSTRAINT "\"5\",1000,300", TWO_UNITS, BOTH_UNITS},
-    {"LF alone in the constraint", 1, CONSTRAINT "5,1000,300\n", TWO_UNITS, BOTH_UNITS},
-    {"open quote in supply", 1, HOUR_5, TWO_UNITS "\"13", BOTH_UNITS},
-    {"tab in schedules", 1, HOUR_5, TWO_UNITS, BOTH_UNITS "\t"},
-    {"empty constraint", 2, "", TWO_UNITS, BOTH_UNITS},
-    {"another header in supply", 2, HOUR_5, "Unit,supplier,mw,cost,dfax\r\n", BOTH_UNITS},
-    {"ten fields in schedules", 2, HOUR_5, TWO_UNITS, BOTH_UNITS "12,2,C,5,100,3000,0,0,1,1\r\n"},
-    {"hour 24", 3, CONSTRAINT "24,1000,300\r\n", TWO_UNITS, BOTH_UNITS},
-    {"dfax -0", 3, HOUR_5, TWO_UNITS "13,3,1,0,-0\r\n", BOTH_UNITS},
-    {"kind m", 3, HOUR_5, TWO_UNITS, BOTH_UNITS "12,2,m,5,100,3000,0,0,1\r\n"},
-    {"no constraint row", 4, CONSTRAINT, TWO_UNITS, BOTH_UNITS},
-    {"two constraint rows", 4, HOUR_5 "5,1000,300\r\n", TWO_UNITS, BOTH_UNITS},
-    {"dfax of one unit differs in its sign", 6, HOUR_5, TWO_UNITS "11,1,1000,3000,-5000\r\n", BOTH_UNITS},
-    {"a schedule's hour repeated", 6, HOUR_5, TWO_UNITS, BOTH_UNITS ROW_OF_11},
-    {"a second M schedule", 6, HOUR_5, TWO_UNITS, BOTH_UNITS "11,2,M,5,100,4000,50000,20000,1\r\n"},
-    {"schedule of a unit not in supply", 7, HOUR_5, TWO_UNITS, BOTH_UNITS "13,1,C,5,100,3000,0,0,1\r\n"},
-    {"unit without a schedule", 8, HOUR_5, TWO_UNITS, SCHEDULES ROW_OF_11},
-    {"run of two hours with a row for one", 9, HOUR_5, TWO_UNITS, BOTH_UNITS "12,2,C,5,100,3000,0,0,2\r\n"},
-    {"no row for the study hour", 9, HOUR_5, TWO_UNITS, SCHEDULES ROW_OF_11 "12,1,C,6,100,3000,0,0,1\r\n"},
-};
-
-/* The starred example of document 01, and its answer. */
-#define STARRED_SUPPLY SUPPLY "11,1,1000,3000,5000\r\n12,2,1000,3000,-5000\r\n13,3,1000,4000,5000\r\n14,4,2000,2000,200\r\n"
-#define STARRED_SCHEDULES \
-    SCHEDULES "11,1,M,5,100,4000,50000,20000,1\r\n11,2,C,5,100,3000,50000,20000,1\r\n" \
-              "12,1,M,5,100,3300,0,0,1\r\n12,2,C,5,100,3000,0,0,1\r\n13,1,C,5,200,4000,0,1000,1\r\n" \
-              "14,1,M,5,100,5000,0,0,1\r\n14,2,C,5,100,2000,0,0,1\r\n"
-#define ANSWER_HEADER "unit,supplier,verdict,left,schedule,kind,cost\r\n"
-#define STARRED_ANSWER \
-    ANSWER_HEADER "11,1,F,0,2,C,1030000\r\n12,2,F,0,1,M,330000\r\n13,3,F,0,1,C,890000\r\n14,4,F,5000000,1,M,500000\r\n"
-
-/* A study: how long a buffer is lent, what is written or else what is reported. */
-struct study {
-    const char *name;
-    size_t room;
-    const char *answer;
-    uint64_t report[3];
-    const char *constraint;
-    const char *supply;
-    const char *schedules;
+    {"all rules kept", 0, {HOUR_5, TWO_UNITS, BOTH_UNITS}},
+    {"no rows of supply and schedules", 0, NO_UNITS},
+    {"fields quoted, last record without CR LF", 0, {CONSTRAINT "\"5\",1000,300", TWO_UNITS, BOTH_UNITS}},
+    {"LF alone in the constraint", 1, {CONSTRAINT "5,1000,300\n", TWO_UNITS, BOTH_UNITS}},
+    {"open quote in supply", 1, {HOUR_5, TWO_UNITS "\"13", BOTH_UNITS}},
+    {"tab in schedules", 1, {HOUR_5, TWO_UNITS, BOTH_UNITS "\t"}},
+    {"empty constraint", 2, {"", TWO_UNITS, BOTH_UNITS}},
+    {"another header in supply", 2, {HOUR_5, "Unit,supplier,mw,cost,dfax\r\n", BOTH_UNITS}},
+    {"ten fields in schedules", 2, {HOUR_5, TWO_UNITS, BOTH_UNITS "12,2,C,5,100,3000,0,0,1,1\r\n"}},
+    {"hour 24", 3, {CONSTRAINT "24,1000,300\r\n", TWO_UNITS, BOTH_UNITS}},
+    {"dfax -0", 3, {HOUR_5, TWO_UNITS "13,3,1,0,-0\r\n", BOTH_UNITS}},
+    {"kind m", 3, {HOUR_5, TWO_UNITS, BOTH_UNITS "12,2,m,5,100,3000,0,0,1\r\n"}},
+    {"no constraint row", 4, {CONSTRAINT, TWO_UNITS, BOTH_UNITS}},
+    {"two constraint rows", 4, {HOUR_5 "5,1000,300\r\n", TWO_UNITS, BOTH_UNITS}},
+    {"dfax of one unit differs in its sign", 6, {HOUR_5, TWO_UNITS "11,1,1000,3000,-5000\r\n", BOTH_UNITS}},
+    {"a schedule's hour repeated", 6, {HOUR_5, TWO_UNITS, BOTH_UNITS ROW_OF_11}},
+    {"a second M schedule", 6, {HOUR_5, TWO_UNITS, BOTH_UNITS "11,2,M,5,100,4000,50000,20000,1\r\n"}},
+    {"schedule of a unit not in supply", 7, {HOUR_5, TWO_UNITS, BOTH_UNITS "13,1,C,5,100,3000,0,0,1\r\n"}},
+    {"unit without a schedule", 8, {HOUR_5, TWO_UNITS, SCHEDULES ROW_OF_11}},
+    {"run of two hours with a row for one", 9, {HOUR_5, TWO_UNITS, BOTH_UNITS "12,2,C,5,100,3000,0,0,2\r\n"}},
+    {"no row for the study hour", 9, {HOUR_5, TWO_UNITS, SCHEDULES ROW_OF_11 "12,1,C,6,100,3000,0,0,1\r\n"}},
 };
 
 static const struct study studies[] = {
-    {"the starred example", CAPPING_LONGEST_ANSWER, STARRED_ANSWER, {0, 0, 0}, HOUR_5, STARRED_SUPPLY, STARRED_SCHEDULES},
-    {"a buffer that just fits", sizeof STARRED_ANSWER - 1, STARRED_ANSWER, {0, 0, 0}, HOUR_5, STARRED_SUPPLY, STARRED_SCHEDULES},
-    {"a buffer one short", sizeof STARRED_ANSWER - 2, "", {10, 0, 0}, HOUR_5, STARRED_SUPPLY, STARRED_SCHEDULES},
-    {"no room at all", 0, "", {10, 0, 0}, HOUR_5, STARRED_SUPPLY, STARRED_SCHEDULES},
-    {"no units", sizeof ANSWER_HEADER - 1, ANSWER_HEADER, {0, 0, 0}, HOUR_5, SUPPLY, SCHEDULES},
-    {"empty constraint", 0, "", {2, 1, 0}, "", TWO_UNITS, BOTH_UNITS},
-    {"text behind a closing quote", 99, "", {1, 2, 0}, HOUR_5, TWO_UNITS "\"13\"3", BOTH_UNITS},
-    {"ten fields in the third schedule row", 99, "", {2, 3, 3}, HOUR_5, TWO_UNITS, BOTH_UNITS "12,2,C,5,100,3000,0,0,1,1\r\n"},
-    {"dfax -0 in the third supply row", 99, "", {3, 2, 3}, HOUR_5, TWO_UNITS "13,3,1,0,-0\r\n", BOTH_UNITS},
-    {"two constraint rows", 99, "", {4, 1, 0}, HOUR_5 "5,1000,300\r\n", TWO_UNITS, BOTH_UNITS},
-    {"a unit's other supplier", 99, "", {6, 2, 3}, HOUR_5, TWO_UNITS "11,2,1000,3000,5000\r\n", BOTH_UNITS},
-    {"a unit not in supply", 99, "", {7, 3, 3}, HOUR_5, TWO_UNITS, BOTH_UNITS "13,1,C,5,100,3000,0,0,1\r\n"},
-    {"unit 12 without a schedule", 99, "", {8, 3, 12}, HOUR_5, TWO_UNITS, SCHEDULES ROW_OF_11},
-    {"unit 12 without its second hour", 99, "", {9, 3, 12}, HOUR_5, TWO_UNITS, BOTH_UNITS "12,2,C,5,100,3000,0,0,2\r\n"},
+    {"the starred example", CAPPING_LONGEST_ANSWER, STARRED_ANSWER, {0, 0, 0}, STARRED},
+    {"a buffer that just fits", sizeof STARRED_ANSWER - 1, STARRED_ANSWER, {0, 0, 0}, STARRED},
+    {"a buffer one short", sizeof STARRED_ANSWER - 2, "", {10, 0, 0}, STARRED},
+    {"no room at all", 0, "", {10, 0, 0}, STARRED},
+    {"no units", sizeof ANSWER_HEADER - 1, ANSWER_HEADER, {0, 0, 0}, NO_UNITS},
+    {"empty constraint", 0, "", {2, 1, 0}, {"", TWO_UNITS, BOTH_UNITS}},
+    {"text behind a closing quote", 99, "", {1, 2, 0}, {HOUR_5, TWO_UNITS "\"13\"3", BOTH_UNITS}},
+    {"ten fields in the third schedule row", 99, "", {2, 3, 3}, {HOUR_5, TWO_UNITS, BOTH_UNITS "12,2,C,5,100,3000,0,0,1,1\r\n"}},
+    {"dfax -0 in the third supply row", 99, "", {3, 2, 3}, {HOUR_5, TWO_UNITS "13,3,1,0,-0\r\n", BOTH_UNITS}},
+    {"two constraint rows", 99, "", {4, 1, 0}, {HOUR_5 "5,1000,300\r\n", TWO_UNITS, BOTH_UNITS}},
+    {"a unit's other supplier", 99, "", {6, 2, 3}, {HOUR_5, TWO_UNITS "11,2,1000,3000,5000\r\n", BOTH_UNITS}},
+    {"a unit not in supply", 99, "", {7, 3, 3}, {HOUR_5, TWO_UNITS, BOTH_UNITS "13,1,C,5,100,3000,0,0,1\r\n"}},
+    {"unit 12 without a schedule", 99, "", {8, 3, 12}, {HOUR_5, TWO_UNITS, SCHEDULES ROW_OF_11}},
+    {"unit 12 without its second hour", 99, "", {9, 3, 12}, {HOUR_5, TWO_UNITS, BOTH_UNITS "12,2,C,5,100,3000,0,0,2\r\n"}},
 };
 
 /* A test of one supplier. */
@@ -96,7 +64,6 @@ struct one_test {
 };
 
 #define MOST_AMOUNT UINT64_C(1000000000000)
-#define UNTOUCHED UINT64_C(77)
 
 static const struct one_test tests[] = {
     {"the last of four at need 2", {4, 3, 2, 1}, 4, 3, 2, CAPPING_P, 2},
@@ -112,46 +79,18 @@ static const struct one_test tests[] = {
     {"no amounts", {0}, 0, 0, 1, CAPPING_TEST_REFUSED, UNTOUCHED},
 };
 
-static int failures;
-
-static void require(const char *name, const char *what, int kept) {
-    if (!kept) {
-        printf("%s: %s\n", name, what);
-        failures++;
-    }
-}
-
-/* Studies on a buffer that is filled with a pattern first. What is lent is just as long as it is said to be, so that a tool
- * that watches memory sees a byte touched beside it. */
-static void expect_study(const struct study *s) {
-    uint8_t *buffer = malloc(s->room > 0 ? s->room : 1);
-    uint64_t *report = malloc(3 * sizeof *report);
-    size_t length = strlen(s->answer), changed = 0;
-    memset(buffer, 0xA5, s->room > 0 ? s->room : 1);
-    for (int i = 0; i < 3; i++)
-        report[i] = UNTOUCHED;
-    uint64_t count = capping_study((const uint8_t *)s->constraint, strlen(s->constraint), (const uint8_t *)s->supply,
-                                   strlen(s->supply), (const uint8_t *)s->schedules, strlen(s->schedules), buffer, s->room, report);
-    for (size_t i = length; i < s->room; i++)
-        changed += buffer[i] != 0xA5;
-    require(s->name, "another count", count == length);
-    require(s->name, "another answer", memcmp(buffer, s->answer, length) == 0);
-    require(s->name, "a byte changed past the answer", changed == 0);
-    require(s->name, "another report", memcmp(report, s->report, sizeof s->report) == 0);
-    free(report);
-    free(buffer);
+static void expect_check(const char *name, uint64_t number, struct files texts) {
+    struct lent files = lend(&texts);
+    require(name, "another number", capping_check(LENT(files)) == number);
+    take_back(files);
 }
 
 static void expect_test(const struct one_test *t) {
-    uint64_t left = UNTOUCHED;
-    require(t->name, "another verdict", capping_test(t->amounts, t->count, t->place, t->need, &left) == t->verdict);
-    require(t->name, "another left", left == t->left);
-}
-
-static void expect(const char *name, uint64_t number, const char *constraint, const char *supply, const char *schedules) {
-    uint64_t answer = capping_check((const uint8_t *)constraint, strlen(constraint), (const uint8_t *)supply, strlen(supply),
-                                    (const uint8_t *)schedules, strlen(schedules));
-    require(name, "another number", answer == number);
+    uint64_t *amounts = copy_of(t->amounts, t->count * sizeof *amounts), *left = untouched(sizeof *left);
+    require(t->name, "another verdict", capping_test(amounts, t->count, t->place, t->need, left) == t->verdict);
+    require(t->name, "another left", *left == t->left);
+    free(left);
+    free(amounts);
 }
 
 /* A supply file of so many rows: units 1 to units and suppliers 1 to suppliers, over and over. */
@@ -164,17 +103,15 @@ static const char *supply_of(unsigned rows, unsigned units, unsigned suppliers) 
 }
 
 int main(void) {
-    for (size_t i = 0; i < sizeof examples / sizeof *examples; i++) {
-        const struct example *e = &examples[i];
-        expect(e->name, e->number, e->constraint, e->supply, e->schedules);
-    }
-    expect("257 supply rows", 4, HOUR_5, supply_of(257, 64, 32), BOTH_UNITS);
-    expect("a 65th unit", 5, HOUR_5, supply_of(65, 65, 1), BOTH_UNITS);
-    expect("a 33rd supplier", 5, HOUR_5, supply_of(33, 33, 33), BOTH_UNITS);
-    expect("64 units and 32 suppliers, of which one has a schedule", 8, HOUR_5, supply_of(256, 64, 32),
-           SCHEDULES "1,1,C,5,100,3000,0,0,1\r\n");
+    for (size_t i = 0; i < sizeof examples / sizeof *examples; i++)
+        expect_check(examples[i].name, examples[i].number, examples[i].files);
+    expect_check("257 supply rows", 4, (struct files){HOUR_5, supply_of(257, 64, 32), BOTH_UNITS});
+    expect_check("a 65th unit", 5, (struct files){HOUR_5, supply_of(65, 65, 1), BOTH_UNITS});
+    expect_check("a 33rd supplier", 5, (struct files){HOUR_5, supply_of(33, 33, 33), BOTH_UNITS});
+    expect_check("64 units and 32 suppliers, of which one has a schedule", 8,
+                 (struct files){HOUR_5, supply_of(256, 64, 32), SCHEDULES "1,1,C,5,100,3000,0,0,1\r\n"});
     for (size_t i = 0; i < sizeof studies / sizeof *studies; i++)
-        expect_study(&studies[i]);
+        expect_study(&studies[i], NULL);
     for (size_t i = 0; i < sizeof tests / sizeof *tests; i++)
         expect_test(&tests[i]);
     return failures == 0 ? 0 : 1;

@@ -1,37 +1,13 @@
 """Cases of the check, the study and the test from Python. What each must answer was worked from document 01."""
+import pickle
 import unittest
+import unittest.mock
 
 import capping
-
-CONSTRAINT = b"hour,relief,cutoff\r\n"
-SUPPLY = b"unit,supplier,mw,cost,dfax\r\n"
-SCHEDULES = b"unit,schedule,kind,hour,ecomin,price,noload,startup,minrun\r\n"
-HOUR_5 = CONSTRAINT + b"5,1000,300\r\n"
-
-# The starred example of document 01, and its answer.
-STARRED_SUPPLY = SUPPLY + b"11,1,1000,3000,5000\r\n12,2,1000,3000,-5000\r\n13,3,1000,4000,5000\r\n14,4,2000,2000,200\r\n"
-STARRED_SCHEDULES = (
-    SCHEDULES
-    + b"11,1,M,5,100,4000,50000,20000,1\r\n11,2,C,5,100,3000,50000,20000,1\r\n"
-    + b"12,1,M,5,100,3300,0,0,1\r\n12,2,C,5,100,3000,0,0,1\r\n13,1,C,5,200,4000,0,1000,1\r\n"
-    + b"14,1,M,5,100,5000,0,0,1\r\n14,2,C,5,100,2000,0,0,1\r\n"
-)
-STARRED_ANSWER = (
-    b"unit,supplier,verdict,left,schedule,kind,cost\r\n"
-    b"11,1,F,0,2,C,1030000\r\n12,2,F,0,1,M,330000\r\n13,3,F,0,1,C,890000\r\n14,4,F,5000000,1,M,500000\r\n"
-)
-STARRED = (HOUR_5, STARRED_SUPPLY, STARRED_SCHEDULES)
+from capping import engine
+from starred import HOUR_5, SCHEDULES, STARRED, STARRED_ANSWER, STARRED_SCHEDULES, STARRED_SUPPLY, SUPPLY, Case
 
 MOST_AMOUNT = 10**12
-
-
-class Case(unittest.TestCase):
-    def refused(self, number, file, place, call, *arguments, **named):
-        with self.assertRaises(capping.Refused) as raised:
-            call(*arguments, **named)
-        told = raised.exception
-        self.assertEqual((told.number, told.file, told.place), (number, file, place))
-        return str(told)
 
 
 class Check(Case):
@@ -101,6 +77,18 @@ class Words(unittest.TestCase):
     def test_every_number(self):
         for number in (*range(1, 12), *range(20, 25)):
             self.assertIn(f"refusal {number}: ", str(capping.Refused(number)))
+
+    def test_pickled(self):
+        told = pickle.loads(pickle.dumps(capping.Refused(8, 3, 12)))
+        self.assertEqual((told.number, told.file, told.place), (8, 3, 12))
+        self.assertEqual(str(told), "refusal 8: a unit has no schedule (schedules, unit 12)")
+
+
+class Loading(unittest.TestCase):
+    def test_a_library_without_the_calls(self):
+        other = unittest.mock.patch.object(engine, "SHARED_OBJECT", "libc.so.6")
+        with other, self.assertRaisesRegex(OSError, "capping_check; hosts/python/build links it anew$"):
+            engine.functions.__wrapped__()
 
 
 if __name__ == "__main__":

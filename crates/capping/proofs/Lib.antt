@@ -1,2 +1,4 @@
 pub mod CheckLaws
+pub mod DayCellLaws
+pub mod DayInLaws
 pub mod ExportLaws

@@ -1,1 +1,4 @@
+pub mod CallPromises
+pub mod DayPromises
+pub mod Days
 pub mod Exports

@@ -2,13 +2,15 @@
 // the amounts, the place and the need.
 ghost use mathlib.Core.Path.{_≡_};
 ghost use Rattle.filing.specs.Filing.{files};
+ghost use Rattle.judge.specs.Day.{freshDay};
 ghost use Rattle.pivotal.specs.Test.{tested};
-ghost use Rattle.capping.specs.Exports.{answerCount, answerRefusal, FreshStudy, FreshRight, cellsOf, verdictNumber, testNumber, testLeft};
+ghost use Rattle.capping.specs.Exports.{StudyTold, ToldRight, verdictNumber, testNumber, testLeft};
+use crate::calls::count_of;
+use crate::calls::of_study;
+use crate::calls::tell;
 use engine::Day;
-use engine::Study;
 use pivotal::Answer;
 use pivotal::Verdict;
-use tables::Refusal;
 
 // What the test answers by numbers.
 const PASSED: u64 = 0;
@@ -27,13 +29,13 @@ pub extern "C" fn capping_study(
     answer: &mut [u8],
     report: &mut [u64; 3],
 ) -> u64
-    ensures { λ r. ⌜ FreshStudy (files (now (constraint .entry)) (now (supply .entry)) (now (schedules .entry))) (now (answer .entry)) (now (answer .exit)) (now (report .exit)) r ⌝ }
-    ensures { λ r. ⌜ FreshRight (files (now (constraint .entry)) (now (supply .entry)) (now (schedules .entry))) (now (answer .exit)) r ⌝ }
+    ensures { λ r. ⌜ StudyTold freshDay (files (now (constraint .entry)) (now (supply .entry)) (now (schedules .entry))) (now (answer .entry)) (now (answer .exit)) (now (report .exit)) r ⌝ }
+    ensures { λ r. ⌜ ToldRight freshDay (files (now (constraint .entry)) (now (supply .entry)) (now (schedules .entry))) (now (answer .exit)) r ⌝ }
 {
     let day = Day::fresh();
     let studied = day.study(constraint, supply, schedules, answer);
     let study = studied.answer;
-    tell(refusal_of(study), report);
+    tell(of_study(study), report);
     count_of(study)
 }
 
@@ -59,34 +61,5 @@ fn verdict_number(verdict: Verdict) -> u64
     match verdict {
         Verdict::P => PASSED,
         Verdict::F => FAILED,
-    }
-}
-
-// Stores number, file and place.
-fn tell(refusal: Refusal, report: &mut [u64; 3])
-    ensures { λ _. ⌜ now (report .exit) ≡ cellsOf refusal ⌝ }
-{
-    *report = [refusal.number, refusal.file, refusal.place];
-}
-
-fn count_of(study: Study) -> u64
-    ensures { λ r. ⌜ r ≡ answerCount study ⌝ }
-{
-    match study {
-        Study::Written(count) => count as u64,
-        Study::Refused(_) => 0,
-    }
-}
-
-fn refusal_of(study: Study) -> Refusal
-    ensures { λ r. ⌜ r ≡ answerRefusal study ⌝ }
-{
-    match study {
-        Study::Written(_) => Refusal {
-            number: 0,
-            file: 0,
-            place: 0,
-        },
-        Study::Refused(refusal) => refusal,
     }
 }

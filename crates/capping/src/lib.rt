@@ -1,8 +1,14 @@
-// What host programs in C, Rust and Python link: the check of three files, the study of a fresh day
-// and the test of one supplier.
+// What host programs in C, Rust and Python link: the check of three files, the study of a fresh day, a
+// day that is studied and released from call after call, and the test of one supplier.
+mod calls;
 mod check;
+mod day_calls;
+mod days;
 mod exports;
 
 pub use check::capping_check;
+pub use day_calls::capping_day_fresh;
+pub use day_calls::capping_day_release;
+pub use day_calls::capping_day_study;
 pub use exports::capping_study;
 pub use exports::capping_test;

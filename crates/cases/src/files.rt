@@ -5,7 +5,10 @@ use crate::escapes::put;
 use crate::lines::BLANK;
 use crate::lines::LF;
 use numeral::Answer;
+use tables::CONSTRAINT_HEADER;
 use tables::File;
+use tables::SCHEDULES_HEADER;
+use tables::SUPPLY_HEADER;
 use texts::after;
 use texts::behind;
 use texts::first;
@@ -18,12 +21,9 @@ pub fn put_header(file: File, out: &mut [u8]) -> usize
     ensures { λ r. ⌜ r ≤ length (now (out .exit)) ⌝ }
 {
     match file {
-        File::Constraint => put(b"hour,relief,cutoff\r\n", out),
-        File::Supply => put(b"unit,supplier,mw,cost,dfax\r\n", out),
-        File::Schedules => put(
-            b"unit,schedule,kind,hour,ecomin,price,noload,startup,minrun\r\n",
-            out,
-        ),
+        File::Constraint => put(&CONSTRAINT_HEADER, out),
+        File::Supply => put(&SUPPLY_HEADER, out),
+        File::Schedules => put(&SCHEDULES_HEADER, out),
     }
 }
 

@@ -5,14 +5,12 @@ use cases::LF;
 use cases::put_file;
 use cases::unreadable;
 use choice::DayKind;
+use hours::LAST_HOUR;
 use numeral::Answer;
 use tables::File;
 use texts::after;
 use texts::first;
 use texts::same_text;
-
-// The last hour of a day.
-const LAST: u64 = 23;
 
 // Room for more than the longest file of a case.
 const FILE: usize = 4096;
@@ -23,7 +21,7 @@ pub fn answer(text: &[u8]) {
     if !cases::is_case(line) {
         return;
     }
-    let Answer::Number(hour) = numeral::read(first(line, BLANK), 0, LAST) else {
+    let Answer::Number(hour) = numeral::read(first(line, BLANK), 0, LAST_HOUR) else {
         unreadable();
         return;
     };

@@ -11,6 +11,7 @@ use cells::schedule::cell;
 use choice::Choice;
 use choice::Chosen;
 use choice::DayKind;
+use filing::SCHEDULE_CELLS;
 use libc::STDOUT_FILENO;
 use links::LENGTH;
 use schedules::link_rows;
@@ -18,13 +19,10 @@ use tables::File;
 use tables::Kind;
 use tables::Reading;
 
-// The cells of the longest file: 1,024 rows of 9.
-const CELLS: usize = 9216;
-
 // The choice for the unit of a schedules file, whose rows are lent as the cells that reading lays
 // down.
 pub fn case(hour: u64, is_exposed: bool, day: DayKind, schedules: &[u8]) {
-    let mut cells = [0u64; CELLS];
+    let mut cells = [0u64; SCHEDULE_CELLS];
     let reading = tables::read(File::Schedules, schedules, &mut cells);
     match reading {
         Reading::Rows(n) => choose(&cells, n, hour, is_exposed, day),

@@ -17,7 +17,6 @@ use Rattle.tables.specs.declared.files.Refusal.{Refusal}
 use Rattle.cells.specs.Views.{AnswerRow, answerRows, answerWidth}
 use Rattle.supply.specs.Supply.{units}
 use Rattle.filing.specs.Filing.{Files, constraintOf, supplyOf, schedulesOf, marketRefusals, schedulesRefusals, filingRefusals, filingRefusal}
-use Rattle.base.proofs.Searches.{first-of-none}
 use Rattle.base.proofs.FirstLaws.{first-of-one, first-of-here, first-of-later, first-of-part, first-of-rest}
 use Rattle.decision.specs.Deciding.{DecidesRows as RowsDecide}
 use Rattle.decision.specs.Units.{UnitsOf}
@@ -185,13 +184,3 @@ module _ (day : Day) (f : Files) (new : List ℕ) (r : Deciding) where
           first-of-rest (marketRefusals (f .constraint) (f .supply)) _ ok,
         )
         (rw (constraint, is) at decides)
-
--- a day of which something is decided is well-formed
-unless-none : (t : Bool) (n : ℕ) → unless t n ≡ none → t ≡ true
-unfolding unless
-unless-none true n e = refl
-unless-none false n e = let z : _≡_ {A = ℕ} 0 1 = cc in absurd (omega arith)
-
-pub decided-formed : (day : Day) (f : Files) → decisionRefusal (viewOf day) f ≡ none → dayFormed (viewOf day) ≡ true
-unfolding decisionRefusal decisionRefusals
-decided-formed day f e = unless-none (dayFormed (viewOf day)) 24 (first-of-none _ _ e .0)

@@ -1,13 +1,12 @@
 -- From files that are filed, and the cells that were laid down, to what deciding their rows asks. Assumes nothing.
 use Prim.Native.Nat.{ℕ, _≤_, _<_}
 use mathlib.Core.Path.{_≡_, refl, sym, _∙_}
-use mathlib.Core.List.{List, [], _∷_}
+use mathlib.Core.List.{List}
 use mathlib.Core.Option.{none, some}
 use native.Mathlib.Omega.{arith}
 use lib.ListN.{length}
-use Rattle.base.specs.Search.{All, all-none, all-more, firstOf}
+use Rattle.base.specs.Search.{firstOf}
 use Rattle.base.proofs.Elements.{all-mem}
-use Rattle.tables.specs.Ranges.{PermittedSupply}
 use Rattle.tables.specs.Rows.{SupplyRow, supplyRows, scheduleRows}
 use Rattle.tables.specs.declared.files.File.the-variants.{Supply, Schedules}
 use Rattle.tables.specs.declared.files.Reading.{Reading}
@@ -30,13 +29,10 @@ use Rattle.tables.specs.Reading.{refusal}
 use Rattle.filing.proofs.FilingLaws.{supply-count, schedules-count}
 use Rattle.filing.proofs.KeptLaws.{constraint-kept, supply-kept, schedules-kept, units-few, suppliers-few}
 use Rattle.tables.proofs.Accepted.{accepted}
+use Rattle.judge.proofs.Sound.{some-units}
 use Rattle.commitment.specs.Ranges.{ScheduleCells}
 use Rattle.decision.specs.Standing.{MarketCells}
 use Rattle.decision.specs.Units.{UnitsOf}
-
-some-units : (rows : List SupplyRow) → All PermittedSupply rows → All (λ (r : SupplyRow). 1 ≤ r .unit) rows
-some-units [] all-none = all-none
-some-units (r ∷ rows) (all-more p ps) = all-more (p .some-unit) (some-units rows ps)
 
 -- as many parties as suppliers, since a row counts for its supplier
 parties-suppliers : (rows : List SupplyRow) → parties rows ≡ suppliers rows
@@ -79,7 +75,7 @@ module _ (c s supply us : List ℕ) {q : MarketFiling} (filed : MarketFiled c s 
         there = omega arith;
         counted = refl;
         listed = filed .kept market-none .listed;
-        rising = units-rising (some-units (supplyOf s) (supply-kept s (read .1)));
+        rising = units-rising (some-units (supply-kept s (read .1)));
       })
 
 -- the cells of schedules that are filed

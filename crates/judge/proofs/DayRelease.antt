@@ -9,9 +9,17 @@ use lib.Dec.{eqb}
 use lib.ListN.{length}
 use borrow.Author.Tests.{eqb-true, ne-eqb}
 use Rattle.base.specs.Search.{any, find, those, firstOf}
+use Rattle.base.proofs.Searches.{first-of-none}
 use Rattle.base.proofs.Tests.{false-true}
-use Rattle.judge.specs.Day.{RunningUnit, DayView, dayFormed, runs, without, stateRefused, unless, releaseRefusal, released}
+use Rattle.tables.specs.declared.files.Refusal.{Refusal}
+use Rattle.judge.specs.Day.{RunningUnit, DayView, mostRunning, dayFormed, runs, without, stateRefused, unless, releaseRefusal, released}
 use Rattle.judge.proofs.DayLaws.{InOrder, none-left, one-more, Formed, formed, formed-told, of}
+
+-- a rule that refuses nothing is kept
+pub unless-none : (t : Bool) (n : ℕ) → unless t n ≡ none → t ≡ true
+unfolding unless
+unless-none true n e = refl
+unless-none false n e = let z : _≡_ {A = ℕ} 0 1 = cc in absurd (omega arith)
 
 -- the outcomes: 24, then 23, else nothing is refused
 module _ (d : DayView) (u : ℕ) where
@@ -123,3 +131,15 @@ frees d u f e =
           timely = k .timely;
           ordered = others-in-order u (k .ordered);
         }
+
+-- a release that is done has left no more running than before, and one that is refused the day that was given
+module _ (d : DayView) (u : ℕ) where
+  pub released-few : releaseRefusal d u ≡ none → length (released d u .running) ≤ mostRunning
+  unfolding released without releaseRefusal
+  released-few e =
+      let kept = formed d (unless-none (dayFormed d) 24 (first-of-none _ _ e .0)) in
+      rw e (omega (arith, others-fewer u (d .running), kept .few))
+
+  pub released-same : (x : Refusal) → releaseRefusal d u ≡ some x → released d u ≡ d
+  unfolding released
+  released-same x e = rw e

@@ -1,17 +1,13 @@
 -- Demand 3: where no refusal but for 10 stands against a study, its answer file is the one text that demand 3 calls right, by
 -- the study's files and the day it was given. Assumes nothing.
-use Prim.Native.Nat.{ℕ, _≤_}
+use Prim.Native.Nat.{ℕ}
 use mathlib.Core.Path.{_≡_, _∙_, ap}
 use mathlib.Core.Logic.{_↔_}
 use mathlib.Core.List.{List}
 use mathlib.Core.Option.{none}
 use Rattle.base.specs.Rising.{RisingFrom}
-use Rattle.base.specs.Search.{All, all-none, all-more}
-use Rattle.tables.specs.Ranges.{PermittedSupply}
-use Rattle.tables.specs.Rows.{SupplyRow}
 use Rattle.filing.specs.Filing.{Files, constraintOf, supplyOf, schedulesOf}
 use Rattle.supply.specs.Supply.{units}
-use Rattle.supply.proofs.UnitLaws.{units-rising}
 use Rattle.judge.specs.Answer.{answerText}
 use Rattle.judge.specs.Day.{DayView}
 use Rattle.judge.specs.Right.{Right}
@@ -19,11 +15,7 @@ use Rattle.judge.specs.Study.{studyRows, answerFile, decisionRefusal}
 use Rattle.judge.proofs.LayoutLaws.{layout-text}
 use Rattle.judge.proofs.RowLaws.{row-right, row-decided}
 use Rattle.judge.proofs.RowsToBytes.{rows-right, rows-only}
-use Rattle.judge.proofs.Sound.{files-kept}
-
-some-units : {rs : List SupplyRow} → All PermittedSupply rs → All (λ (r : SupplyRow). 1 ≤ r .unit) rs
-some-units all-none = all-none
-some-units (all-more p a) = all-more (p .some-unit) (some-units a)
+use Rattle.judge.proofs.Sound.{units-rise}
 
 pub demand-3 :
     (d : DayView) (f : Files) → decisionRefusal d f ≡ none → (text : List ℕ) →
@@ -32,7 +24,7 @@ unfolding studyRows answerFile
 demand-3 d f e text = (right, only)
   where
     rising : RisingFrom 0 (units (supplyOf (f .supply)))
-    rising = units-rising (some-units (files-kept d f e .supply-permitted))
+    rising = units-rise d f e
 
     right : text ≡ answerFile d f → Right d f text
     right same =

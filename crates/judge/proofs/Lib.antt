@@ -1,3 +1,4 @@
+pub mod DayAfter
 pub mod DayLaws
 pub mod DayRanges
 pub mod DayRelease

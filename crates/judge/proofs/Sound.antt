@@ -1,12 +1,14 @@
--- What is known of the rows of a study that isn't refused, as far as demand 3 on one row goes by it. Assumes nothing.
-use Prim.Native.Nat.{_<_}
+-- What is known of the day and the rows of a study that isn't refused. Assumes nothing.
+use Prim.Native.Nat.{_≤_, _<_}
 use mathlib.Core.Path.{_≡_}
+use mathlib.Core.Bool.{true}
 use mathlib.Core.List.{List}
 use mathlib.Core.Option.{none}
 use native.Mathlib.Omega.{arith}
-use Rattle.base.specs.Search.{firstOf, All}
+use Rattle.base.specs.Rising.{RisingFrom}
+use Rattle.base.specs.Search.{firstOf, All, all-none, all-more}
 use Rattle.base.proofs.Searches.{first-of-none, option-map-none}
-use Rattle.tables.specs.Ranges.{PermittedConstraint, PermittedSchedule}
+use Rattle.tables.specs.Ranges.{PermittedConstraint, PermittedSupply, PermittedSchedule}
 use Rattle.tables.specs.Reading.{refused}
 use Rattle.tables.specs.Rows.{SupplyRow, ScheduleRow}
 use Rattle.tables.specs.declared.constraint.ConstraintRow.{ConstraintRow}
@@ -16,12 +18,14 @@ use Rattle.filing.specs.Kept.{Kept}
 use Rattle.schedules.specs.Schedules.{schedulesAtOdds, unscheduled}
 use Rattle.runs.specs.Runs.{lacking}
 use Rattle.supply.specs.Supply.{units, supplyAtOdds}
+use Rattle.supply.proofs.UnitLaws.{units-rising}
 use Rattle.base.proofs.FirstLaws.{first-of-parts-none}
 use Rattle.filing.proofs.KeptLaws.{kept}
 use Rattle.market.specs.Clearing.{needOf}
 use Rattle.judge.specs.Day.{RunningUnit, DayView, dayFormed, unless}
 use Rattle.judge.specs.Decision.{need, costless}
-use Rattle.judge.specs.Study.{decisionRefusals, decisionRefusal, rowsRefusals}
+use Rattle.judge.specs.Study.{crowding, decisionRefusals, decisionRefusal, rowsRefusals}
+use Rattle.judge.proofs.DayRelease.{unless-none}
 
 pub record Sound
     (c : ConstraintRow) (supply : List SupplyRow) (scheduled : List ScheduleRow) (running : List RunningUnit)
@@ -40,7 +44,15 @@ pub some-need :
 unfolding needOf
 some-need s = omega (arith, s .constraint .some-relief)
 
+pub some-units : {rs : List SupplyRow} → All PermittedSupply rs → All (λ (r : SupplyRow). 1 ≤ r .unit) rs
+some-units all-none = all-none
+some-units (all-more p a) = all-more (p .some-unit) (some-units a)
+
 module _ (d : DayView) (f : Files) (e : decisionRefusal d f ≡ none) where
+  pub day-formed : dayFormed d ≡ true
+  unfolding decisionRefusal decisionRefusals
+  day-formed = unless-none (dayFormed d) 24 (first-of-none _ _ e .0)
+
   -- filing refuses nothing, and 20, 21 and 22 are kept
   none-refused :
       (filingRefusal f ≡ none)
@@ -52,12 +64,19 @@ module _ (d : DayView) (f : Files) (e : decisionRefusal d f ≡ none) where
   pub files-kept : Kept f
   files-kept = kept f (none-refused .0)
 
+  pub units-rise : RisingFrom 0 (units (supplyOf (f .supply)))
+  units-rise = units-rising (some-units (files-kept .supply-permitted))
+
   cost-kept : costless (constraintOf (f .constraint) .hour) (supplyOf (f .supply)) (schedulesOf (f .schedules)) (d .running) ≡ none
   unfolding rowsRefusals
   cost-kept =
       option-map-none (refused 21 Schedules)
       (costless (constraintOf (f .constraint) .hour) (supplyOf (f .supply)) (schedulesOf (f .schedules)) (d .running))
       (first-of-none _ _ (first-of-none _ _ (none-refused .1) .1) .0)
+
+  pub crowd-kept : crowding d (units (supplyOf (f .supply))) ≡ none
+  unfolding rowsRefusals
+  crowd-kept = first-of-none _ _ (first-of-none _ _ (first-of-none _ _ (none-refused .1) .1) .1) .0
 
   pub sound : Sound (constraintOf (f .constraint)) (supplyOf (f .supply)) (schedulesOf (f .schedules)) (d .running)
   sound =

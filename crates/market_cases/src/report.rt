@@ -8,14 +8,12 @@ ghost use Prim.Native.Nat.{_≤_, _<_};
 ghost use lib.ListN.{length};
 ghost use Rattle.offers.specs.Ranges.{SupplyCells};
 use cases::print;
+use filing::SUPPLY_CELLS;
 use libc::STDOUT_FILENO;
 use pivotal::Answer;
 use pivotal::Verdict;
 use tables::File;
 use tables::Reading;
-
-// The cells of the most rows of supply.
-const CELLS: usize = 1280;
 
 // Room for the suppliers of so many rows, and for one more.
 const SUPPLIERS: usize = 257;
@@ -26,7 +24,7 @@ pub fn case(relief: u64, cutoff: u64, supply: &[u8])
     requires { ⌜ relief ≤ 1000000 ⌝ }
 {
     let need = market::need_of(relief);
-    let mut cells = [0u64; CELLS];
+    let mut cells = [0u64; SUPPLY_CELLS];
     let reading = tables::read(File::Supply, supply, &mut cells);
     match reading {
         Reading::Rows(n) => print_market(&cells, n, cutoff, need),

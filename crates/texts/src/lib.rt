@@ -5,6 +5,4 @@ mod parting;
 pub use comparing::same_text;
 pub use parting::after;
 pub use parting::behind;
-pub use parting::end;
 pub use parting::first;
-pub use parting::from;

@@ -3,7 +3,7 @@ ghost use Prim.Native.Nat.{_≤_, min};
 ghost use lib.ListN.{length};
 
 // Where the first stop stands, or how long a text is that has none.
-pub fn end(text: &[u8], stop: u8) -> usize
+fn end(text: &[u8], stop: u8) -> usize
     ensures { λ r. ⌜ r ≤ length (now (text .entry)) ⌝ }
 {
     bytes::scan::find(text, 0, text.len(), stop)
@@ -13,12 +13,6 @@ pub fn end(text: &[u8], stop: u8) -> usize
 pub fn first(text: &[u8], stop: u8) -> &[u8] {
     let e = end(text, stop);
     &text[0..e]
-}
-
-// What begins with the first stop; nothing where there is none.
-pub fn from(text: &[u8], stop: u8) -> &[u8] {
-    let e = end(text, stop);
-    &text[e..]
 }
 
 // Where what stands behind the first stop begins, past the first byte if there is one. Nothing is

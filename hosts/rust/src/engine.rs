@@ -1,4 +1,11 @@
 //! The engine's own functions, each behind a call that no safe program can misuse.
+use crate::{Refusal, DAY_CELLS};
+
+/// The cells of a day.
+pub type Cells = [u64; DAY_CELLS];
+
+/// Number, file and place of a refusal; all 0 where a call is accepted.
+type Report = [u64; 3];
 
 extern "C" {
     fn capping_check(
@@ -19,7 +26,7 @@ extern "C" {
         schedules_len: usize,
         answer: *mut u8,
         answer_len: usize,
-        report: *mut [u64; 3],
+        report: *mut Report,
     ) -> u64;
 
     fn capping_test(
@@ -29,6 +36,23 @@ extern "C" {
         need: u64,
         left: *mut u64,
     ) -> u64;
+
+    fn capping_day_fresh(day: *mut Cells);
+
+    fn capping_day_study(
+        day: *mut Cells,
+        constraint: *const u8,
+        constraint_len: usize,
+        supply: *const u8,
+        supply_len: usize,
+        schedules: *const u8,
+        schedules_len: usize,
+        answer: *mut u8,
+        answer_len: usize,
+        report: *mut Report,
+    ) -> u64;
+
+    fn capping_day_release(day: *mut Cells, unit: u64, report: *mut Report) -> u64;
 }
 
 // SAFETY, for each call: a pointer is a slice's or a reference's, so it isn't null, as much as its length says stands there
@@ -52,9 +76,9 @@ pub fn study(
     supply: &[u8],
     schedules: &[u8],
     answer: &mut [u8],
-    report: &mut [u64; 3],
-) -> u64 {
-    unsafe {
+) -> Result<usize, Refusal> {
+    let mut report = [0; 3];
+    let count = unsafe {
         capping_study(
             constraint.as_ptr(),
             constraint.len(),
@@ -64,11 +88,69 @@ pub fn study(
             schedules.len(),
             answer.as_mut_ptr(),
             answer.len(),
-            report,
+            &mut report,
         )
-    }
+    };
+    written(count, report)
 }
 
 pub fn test(amounts: &[u64], place: u64, need: u64, left: &mut u64) -> u64 {
     unsafe { capping_test(amounts.as_ptr(), amounts.len(), place, need, left) }
+}
+
+pub fn day_fresh() -> Cells {
+    let mut day = [0; DAY_CELLS];
+    unsafe { capping_day_fresh(&mut day) };
+    day
+}
+
+pub fn day_study(
+    day: &mut Cells,
+    constraint: &[u8],
+    supply: &[u8],
+    schedules: &[u8],
+    answer: &mut [u8],
+) -> Result<usize, Refusal> {
+    let mut report = [0; 3];
+    let count = unsafe {
+        capping_day_study(
+            day,
+            constraint.as_ptr(),
+            constraint.len(),
+            supply.as_ptr(),
+            supply.len(),
+            schedules.as_ptr(),
+            schedules.len(),
+            answer.as_mut_ptr(),
+            answer.len(),
+            &mut report,
+        )
+    };
+    written(count, report)
+}
+
+pub fn day_release(day: &mut Cells, unit: u64) -> Result<(), Refusal> {
+    let mut report = [0; 3];
+    match unsafe { capping_day_release(day, unit, &mut report) } {
+        0 => Ok(()),
+        _ => Err(refusal(report)),
+    }
+}
+
+/// How many bytes a study wrote, by its report.
+fn written(count: u64, report: Report) -> Result<usize, Refusal> {
+    match report {
+        [0, _, _] => {
+            Ok(usize::try_from(count).expect("no more bytes are written than the buffer has"))
+        }
+        _ => Err(refusal(report)),
+    }
+}
+
+fn refusal([number, file, place]: Report) -> Refusal {
+    Refusal {
+        number,
+        file,
+        place,
+    }
 }

@@ -1,5 +1,6 @@
-//! The offer capping engine as Rust programs call it: check three files, study them on a fresh day, test one supplier.
-//! There is no state, so threads may call at the same time. A call takes up to 264 KiB of stack.
+//! The offer capping engine as Rust programs call it: check three files, study them on a fresh day or on one that goes on, release
+//! a unit, test one supplier. The engine keeps nothing, and a day is its caller's own, so threads may call at the same time. A call
+//! takes up to 128 KiB of stack.
 //!
 //! ```
 //! let [c, s, h] = ["constraint.csv", "supply.csv", "schedules.csv"].map(|name| std::fs::read(name).unwrap_or_default());
@@ -8,10 +9,35 @@
 //!     Err(refusal) => println!("{refusal}"),
 //! }
 //! ```
+//!
+//! A day goes from one study to the next. A refused call leaves it as it was.
+//!
+//! ```
+//! use capping::Day;
+//!
+//! # let [c, s, h] = ["hour,relief,cutoff\r\n5,1000,300\r\n", "unit,supplier,mw,cost,dfax\r\n11,1,1000,3000,5000\r\n",
+//! #     "unit,schedule,kind,hour,ecomin,price,noload,startup,minrun\r\n11,2,C,5,100,3000,50000,20000,1\r\n"].map(str::as_bytes);
+//! let mut day = Day::fresh();
+//! let answer = day.study(c, s, h)?;
+//! let words = day.to_string(); // "5;11:C:2": hour 5, and unit 11 runs on its cost-based schedule 2
+//!
+//! let mut day: Day = words.parse()?;
+//! day.release(11)?;
+//! assert_eq!(day.to_string(), "5;");
+//! assert_eq!(day.release(11).unwrap_err().number, 23);
+//! # assert_eq!(words, "5;11:C:2");
+//! # Ok::<(), Box<dyn std::error::Error>>(())
+//! ```
+mod day;
 mod engine;
 mod refusal;
+mod running;
+mod words;
 
+pub use day::{Day, DAY_CELLS};
 pub use refusal::Refusal;
+pub use running::{Kind, Running};
+pub use words::ParseDayError;
 
 /// How many bytes the longest answer file has.
 pub const LONGEST_ANSWER: usize = 2799;
@@ -33,10 +59,7 @@ pub fn check(constraint: &[u8], supply: &[u8], schedules: &[u8]) -> Result<(), u
 
 /// Studies the three files on a fresh day, and answers the answer file.
 pub fn study(constraint: &[u8], supply: &[u8], schedules: &[u8]) -> Result<Vec<u8>, Refusal> {
-    let mut answer = vec![0; LONGEST_ANSWER];
-    let count = study_into(constraint, supply, schedules, &mut answer)?;
-    answer.truncate(count);
-    Ok(answer)
+    answer_of(|answer| study_into(constraint, supply, schedules, answer))
 }
 
 /// Studies the three files on a fresh day, writes the answer file from the start of the buffer, and answers its length. Bytes
@@ -47,18 +70,7 @@ pub fn study_into(
     schedules: &[u8],
     answer: &mut [u8],
 ) -> Result<usize, Refusal> {
-    let mut report = [0; 3];
-    let count = engine::study(constraint, supply, schedules, answer, &mut report);
-    match report {
-        [0, _, _] => {
-            Ok(usize::try_from(count).expect("no more bytes are written than the buffer has"))
-        }
-        [number, file, place] => Err(Refusal {
-            number,
-            file,
-            place,
-        }),
-    }
+    engine::study(constraint, supply, schedules, answer)
 }
 
 /// Tests the supplier at `place`, counted from 0: what is left without it and its two largest others, and the verdict.
@@ -73,4 +85,12 @@ pub fn test(amounts: &[u64], place: usize, need: u64) -> Result<(u64, Verdict), 
             place: 0,
         }),
     }
+}
+
+/// The answer file that a study writes into a buffer long enough.
+fn answer_of(study: impl FnOnce(&mut [u8]) -> Result<usize, Refusal>) -> Result<Vec<u8>, Refusal> {
+    let mut answer = vec![0; LONGEST_ANSWER];
+    let count = study(&mut answer)?;
+    answer.truncate(count);
+    Ok(answer)
 }

@@ -1,20 +1,14 @@
 //! Cases of the exported check, one for each number at least. What each must answer was worked from document 01.
-use capping::check;
+mod common;
 
-const CONSTRAINT: &str = "hour,relief,cutoff\r\n";
-const SUPPLY: &str = "unit,supplier,mw,cost,dfax\r\n";
-const SCHEDULES: &str = "unit,schedule,kind,hour,ecomin,price,noload,startup,minrun\r\n";
+use capping::check;
+use common::{Files, CONSTRAINT, SCHEDULES, SUPPLY};
+
 const SUPPLY_ROWS: &str = "11,1,1000,3000,5000\r\n12,2,1000,3000,-5000\r\n";
 const ROW_OF_11: &str = "11,1,M,5,100,4000,50000,20000,1\r\n";
 const ROW_OF_12: &str = "12,1,C,5,100,3000,0,0,1\r\n";
 
 /// Three files that keep every rule.
-struct Files {
-    constraint: String,
-    supply: String,
-    schedules: String,
-}
-
 fn kept() -> Files {
     Files {
         constraint: format!("{CONSTRAINT}5,1000,300\r\n"),
@@ -23,41 +17,31 @@ fn kept() -> Files {
     }
 }
 
-impl Files {
-    /// 0, or the number of the first refusal.
-    fn number(&self) -> u64 {
-        check(
-            self.constraint.as_bytes(),
-            self.supply.as_bytes(),
-            self.schedules.as_bytes(),
-        )
-        .err()
-        .unwrap_or(0)
-    }
+/// 0, or the number of the first refusal.
+fn number(files: Files) -> u64 {
+    let [c, s, h] = files.bytes();
+    check(c, s, h).err().unwrap_or(0)
 }
 
 fn constraint(text: &str) -> u64 {
-    Files {
+    number(Files {
         constraint: text.to_string(),
         ..kept()
-    }
-    .number()
+    })
 }
 
 fn supply(text: &str) -> u64 {
-    Files {
+    number(Files {
         supply: text.to_string(),
         ..kept()
-    }
-    .number()
+    })
 }
 
 fn schedules(text: &str) -> u64 {
-    Files {
+    number(Files {
         schedules: text.to_string(),
         ..kept()
-    }
-    .number()
+    })
 }
 
 /// The kept file with more behind it.
@@ -77,15 +61,13 @@ fn supply_of(rows: usize, units: usize, suppliers: usize) -> String {
 
 #[test]
 fn every_rule_kept() {
-    assert_eq!(kept().number(), 0);
-    assert_eq!(
-        check(
-            kept().constraint.as_bytes(),
-            SUPPLY.as_bytes(),
-            SCHEDULES.as_bytes()
-        ),
-        Ok(())
-    );
+    assert_eq!(number(kept()), 0);
+    let no_rows = Files {
+        supply: SUPPLY.to_string(),
+        schedules: SCHEDULES.to_string(),
+        ..kept()
+    };
+    assert_eq!(number(no_rows), 0);
     assert_eq!(constraint(&format!("{CONSTRAINT}\"5\",1000,300")), 0);
 }
 
@@ -146,7 +128,7 @@ fn unit_without_a_schedule() {
         schedules: format!("{SCHEDULES}1,1,C,5,100,3000,0,0,1\r\n"),
         ..kept()
     };
-    assert_eq!(crowd.number(), 8);
+    assert_eq!(number(crowd), 8);
 }
 
 #[test]

@@ -1,89 +1,73 @@
 //! Cases of the study and the test. What each must answer was worked from document 01.
-use capping::{study, study_into, test, Refusal, Verdict, LONGEST_ANSWER};
+mod common;
 
-const CONSTRAINT: &str = "hour,relief,cutoff\r\n5,1000,300\r\n";
-const SUPPLY: &str = "unit,supplier,mw,cost,dfax\r\n\
-    11,1,1000,3000,5000\r\n12,2,1000,3000,-5000\r\n13,3,1000,4000,5000\r\n14,4,2000,2000,200\r\n";
-const SCHEDULES_HEADER: &str = "unit,schedule,kind,hour,ecomin,price,noload,startup,minrun\r\n";
-const SCHEDULES_ROWS: &str =
-    "11,1,M,5,100,4000,50000,20000,1\r\n11,2,C,5,100,3000,50000,20000,1\r\n\
-    12,1,M,5,100,3300,0,0,1\r\n12,2,C,5,100,3000,0,0,1\r\n13,1,C,5,200,4000,0,1000,1\r\n\
-    14,1,M,5,100,5000,0,0,1\r\n14,2,C,5,100,2000,0,0,1\r\n";
-const ANSWER: &str = "unit,supplier,verdict,left,schedule,kind,cost\r\n\
-    11,1,F,0,2,C,1030000\r\n12,2,F,0,1,M,330000\r\n13,3,F,0,1,C,890000\r\n14,4,F,5000000,1,M,500000\r\n";
+use capping::{study, study_into, test, Refusal, Verdict, LONGEST_ANSWER};
+use common::{refused, Files, PATTERN, SCHEDULES, STARRED_ANSWER};
+
 const MOST_AMOUNT: u64 = 1_000_000_000_000;
 
-fn schedules() -> String {
-    format!("{SCHEDULES_HEADER}{SCHEDULES_ROWS}")
+/// Studies the starred files in a buffer of a length that is filled with the pattern first: what is answered, and the buffer.
+fn study_starred(length: usize) -> (Result<usize, Refusal>, Vec<u8>) {
+    let files = Files::starred();
+    let [c, s, h] = files.bytes();
+    let mut buffer = vec![PATTERN; length];
+    let count = study_into(c, s, h, &mut buffer);
+    (count, buffer)
 }
 
-fn refused(number: u64, file: u64, place: u64) -> Refusal {
-    Refusal {
-        number,
-        file,
-        place,
-    }
+/// The refusal of files.
+fn told(files: Files) -> Refusal {
+    let [c, s, h] = files.bytes();
+    study(c, s, h).expect_err("refused")
 }
 
 #[test]
 fn the_starred_example() {
-    let answer = study(
-        CONSTRAINT.as_bytes(),
-        SUPPLY.as_bytes(),
-        schedules().as_bytes(),
-    );
-    assert_eq!(answer.as_deref(), Ok(ANSWER.as_bytes()));
+    let files = Files::starred();
+    let [c, s, h] = files.bytes();
+    assert_eq!(study(c, s, h).as_deref(), Ok(STARRED_ANSWER.as_bytes()));
 }
 
 #[test]
 fn bytes_past_the_answer_stay() {
-    let mut buffer = [0xA5; LONGEST_ANSWER];
-    let count = study_into(
-        CONSTRAINT.as_bytes(),
-        SUPPLY.as_bytes(),
-        schedules().as_bytes(),
-        &mut buffer,
-    );
-    assert_eq!(count, Ok(ANSWER.len()));
-    assert!(buffer[ANSWER.len()..].iter().all(|&byte| byte == 0xA5));
+    let (count, buffer) = study_starred(LONGEST_ANSWER);
+    let (answer, past) = buffer.split_at(STARRED_ANSWER.len());
+    assert_eq!(count, Ok(STARRED_ANSWER.len()));
+    assert_eq!(answer, STARRED_ANSWER.as_bytes());
+    assert!(past.iter().all(|&byte| byte == PATTERN));
 }
 
 #[test]
 fn a_buffer_one_short() {
-    let mut buffer = vec![0xA5; ANSWER.len() - 1];
-    let count = study_into(
-        CONSTRAINT.as_bytes(),
-        SUPPLY.as_bytes(),
-        schedules().as_bytes(),
-        &mut buffer,
-    );
+    let (count, buffer) = study_starred(STARRED_ANSWER.len() - 1);
     assert_eq!(count, Err(refused(10, 0, 0)));
-    assert!(buffer.iter().all(|&byte| byte == 0xA5));
+    assert!(buffer.iter().all(|&byte| byte == PATTERN));
 }
 
 #[test]
 fn refused_studies_in_plain_words() {
-    let told = |constraint: &str, supply: &str, schedules: &str| {
-        study(
-            constraint.as_bytes(),
-            supply.as_bytes(),
-            schedules.as_bytes(),
-        )
-        .expect_err("refused")
-    };
-    let header = told("", SUPPLY, &schedules());
+    let header = told(Files {
+        constraint: String::new(),
+        ..Files::starred()
+    });
     assert_eq!(header, refused(2, 1, 0));
     assert_eq!(
         header.to_string(),
         "refusal 2: the header differs, or a record has another number of fields (constraint, record 0)"
     );
-    let tab = told(CONSTRAINT, &format!("{SUPPLY}\t"), &schedules());
+    let tab = told(Files {
+        supply: Files::starred().supply + "\t",
+        ..Files::starred()
+    });
     assert_eq!(tab, refused(1, 2, 0));
     assert_eq!(
         tab.to_string(),
         "refusal 1: the file isn't CSV by RFC 4180 (supply)"
     );
-    let unit = told(CONSTRAINT, SUPPLY, SCHEDULES_HEADER);
+    let unit = told(Files {
+        schedules: SCHEDULES.to_string(),
+        ..Files::starred()
+    });
     assert_eq!(unit, refused(8, 3, 11));
     assert_eq!(
         unit.to_string(),

@@ -20,8 +20,8 @@
 //! weighs any answer by the words of demand 3, [`changes`] makes answers for it to reject,
 //! [`generator`] makes cases up, and [`tally`] counts what they reached.
 //!
-//! Programs: `model` answers cases, `generate SEED COUNT` prints them, and `compare SEED COUNT PROGRAM`
-//! holds a program against the model on them.
+//! Programs: `model` answers cases, and `generate SEED COUNT` prints them. `tests/compare` holds an
+//! engine against the model on them.
 
 pub mod csv;
 pub mod refusal;

@@ -1,5 +1,5 @@
 -- A fresh day's study, told by its numbers. Assumes nothing.
-use Rattle.capping.proofs.ExportLaws.{fresh-study, fresh-right}
+use Rattle.capping.proofs.ExportLaws.{study-told, told-right}
 use borrow.Author.Needs.{needs}
 use Rattle.capping.proofs.exports.capping_study.Statement.{statement}
 use Rattle.capping.proofs.exports.capping_study.Tie as tie
@@ -10,8 +10,8 @@ fresh-requires c κs = search needs
 study-requires : tie.Need-study-requires
 study-requires c κs = search needs
 
-refusal-of-requires : tie.Need-refusal-of-requires
-refusal-of-requires c κs = search needs
+of-study-requires : tie.Need-of-study-requires
+of-study-requires c κs = search needs
 
 tell-requires : tie.Need-tell-requires
 tell-requires c κs = search needs
@@ -27,8 +27,8 @@ returns c =
     let told = c .before .before .before in
     let study = told .before .before .before in
     let fresh = study .before .before .fresh .ensures .0 in (
-      fresh-study _ _ _ _ fresh _ (study .study .ensures .0) (told .refusal-of .ensures) (c .count-of .ensures) (c .before .tell .ensures),
-      fresh-right _ _ _ (study .study .result) fresh (study .study .ensures .1) (c .count-of .ensures),
+      study-told _ _ fresh _ _ _ _ (study .study .ensures .0) (told .of-study .ensures) (c .count-of .ensures) (c .before .tell .ensures),
+      told-right _ _ fresh _ _ (study .study .result) (study .study .ensures .1) (c .count-of .ensures),
     )
 
 pub capping-study-spec : {M : Type 1} → statement M
@@ -37,7 +37,7 @@ capping-study-spec =
     (tie.spec
     fresh-requires
     study-requires
-    refusal-of-requires
+    of-study-requires
     tell-requires
     count-of-requires
     same-length

@@ -1,7 +1,7 @@
 -- Decided first, then answered; demand 3 from the outcome. Assumes nothing.
 use Rattle.filing.specs.Filing.{files}
+use Rattle.judge.proofs.Sound.{day-formed}
 use Rattle.engine.specs.View.{viewOf}
-use Rattle.engine.proofs.DecidingLaws.{decided-formed}
 use Rattle.engine.proofs.FormingLaws.{formed-units}
 use Rattle.engine.proofs.StudyLaws.{study-refused, study-answered, answers-right}
 use borrow.Author.Needs.{needs}
@@ -30,7 +30,7 @@ answer-rows-requires : tie.Need-answer-rows-requires
 unfolding viewOf
 answer-rows-requires c κs = let laid = c .before .before .before .before .before .before .decide .ensures .decides _ _ (c .before .before .before .deciding2 .given .1) in
     let args = c .before .before .before .before .before .before .before .before .before .before .before .before .args in
-    let formed = decided-formed (args .self) (files (args .constraint .now) (args .supply .now) (args .schedules .now)) (laid .accepted) in
+    let formed = day-formed (viewOf (args .self)) (files (args .constraint .now) (args .supply .now) (args .schedules .now)) (laid .accepted) in
     (formed-units (args .self) formed, laid .ready)
 
 returns : tie.Need-returns

@@ -1,0 +1,214 @@
+-- From a day to its cells, one place after the other, and back: the cells of a day mean that day. Assumes nothing.
+use Prim.Native.Nat.{ℕ, zero, suc, _+_, _*_, _≤_, _<_}
+use mathlib.Core.Path.{_≡_, refl, sym, _∙_, ap}
+use mathlib.Core.List.{List, [], _∷_, _++_, append-nil, append-assoc}
+use mathlib.Core.Option.{Option, none, some}
+use native.Mathlib.Nat.{suc-mul, le-of-suc-le-suc, not-suc-le-zero}
+use native.Mathlib.Omega.{arith}
+use lib.ListN.{length, getD, take, drop, set, length-set, length-append}
+use lib.Seq.{sets, sets-eq, length-sets, length-take-le, take-all, take-at, take-add, drop-drop, getD-drop}
+use Rattle.tables.specs.Rows.{kindOf, letterOf}
+use Rattle.tables.specs.declared.files.Kind.{Kind}
+use Rattle.tables.specs.declared.files.Kind.the-variants.{M, C}
+use Rattle.judge.specs.Day.{RunningUnit, DayView, mostRunning, freshDay}
+use Rattle.running.specs.View.{missing, firstUnits, unitsOf}
+use Rattle.running.specs.declared.units.Units.{Units}
+use Rattle.running.proofs.ViewLaws.{unused, first-length, counted, first-at}
+use Rattle.engine.specs.View.{hourOf, viewOf}
+use Rattle.engine.specs.declared.day.Day.{Day}
+use Rattle.capping.specs.DayPromises.{cellsOfPlace, Holds, placed}
+use Rattle.capping.specs.Days.{firstPlace, placeWidth, dayLength, hourIn, unitIn, unitAt, unitsFrom, dayIn, hourCells, placeCells, dayCells}
+use Rattle.capping.specs.declared.days.Place.{Place}
+
+-- three cells a place
+pub places-length : (n : ℕ) (rs : List RunningUnit) → length (placeCells n rs) ≡ n * placeWidth
+unfolding placeCells
+places-length zero rs = refl
+places-length (suc n) [] = rw (suc-mul n placeWidth) (omega (arith, places-length n []))
+places-length (suc n) (r ∷ rs) = rw (suc-mul n placeWidth) (omega (arith, places-length n rs))
+
+-- the cells of a unit
+abbrev unitCells : RunningUnit → List ℕ
+unitCells r = r .unit ∷ letterOf (r .kind) ∷ r .schedule ∷ []
+
+-- a unit's place, and a place behind the last unit
+pub place-held :
+    (n : ℕ) (rs : List RunningUnit) (i : ℕ) → i < n → i < length rs →
+    take placeWidth (drop (i * placeWidth) (placeCells n rs)) ≡ unitCells (getD rs i missing)
+unfolding placeCells
+place-held zero rs i h k = absurd (not-suc-le-zero h)
+place-held (suc n) [] i h k = absurd (not-suc-le-zero k)
+place-held (suc n) (r ∷ rs) zero h k = refl
+place-held (suc n) (r ∷ rs) (suc i) h k =
+    let further : suc i * placeWidth ≡ suc (suc (suc (i * placeWidth))) = rw (suc-mul i placeWidth) (omega arith) in
+    rw further (place-held n rs i (le-of-suc-le-suc h) (le-of-suc-le-suc k))
+
+pub place-empty :
+    (n : ℕ) (rs : List RunningUnit) (i : ℕ) → i < n → length rs ≤ i →
+    take placeWidth (drop (i * placeWidth) (placeCells n rs)) ≡ 0 ∷ 0 ∷ 0 ∷ []
+unfolding placeCells
+place-empty zero rs i h k = absurd (not-suc-le-zero h)
+place-empty (suc n) [] zero h k = refl
+place-empty (suc n) [] (suc i) h k =
+    let further : suc i * placeWidth ≡ suc (suc (suc (i * placeWidth))) = rw (suc-mul i placeWidth) (omega arith) in
+    rw further (place-empty n [] i (le-of-suc-le-suc h) (omega arith))
+place-empty (suc n) (r ∷ rs) zero h k = absurd (not-suc-le-zero k)
+place-empty (suc n) (r ∷ rs) (suc i) h k =
+    let further : suc i * placeWidth ≡ suc (suc (suc (i * placeWidth))) = rw (suc-mul i placeWidth) (omega arith) in
+    rw further (place-empty n rs i (le-of-suc-le-suc h) (le-of-suc-le-suc k))
+
+-- of all places the first i are laid down
+pub record Laying (rs : List RunningUnit) (old cells : List ℕ) (i : ℕ) : Type 0 where
+  pub upto : i ≤ mostRunning
+  pub long : length cells ≡ dayLength
+  pub laid : take (firstPlace + i * placeWidth) cells ≡ take firstPlace old ++ take (i * placeWidth) (placeCells mostRunning rs)
+
+pub laying-none : (rs : List RunningUnit) (cells : List ℕ) → length cells ≡ dayLength → Laying rs cells cells 0
+laying-none rs cells e = record { upto = omega arith; long = e; laid = sym (append-nil (take firstPlace cells)) }
+
+module _ (rs : List RunningUnit) (old cells : List ℕ) (i : ℕ) (l : Laying rs old cells i) where
+  pub laying-next : (p : Place) → i < mostRunning → Holds rs i p → Laying rs old (placed p i cells) (i + 1)
+  unfolding placed
+  laying-next p h holds =
+      let at = firstPlace + i * placeWidth in
+      let room : at + 3 ≤ length cells = omega (arith, l .long) in
+      let front : length (take at cells ++ cellsOfPlace p) ≡ at + 3 =
+      length-append (take at cells) (cellsOfPlace p) ∙ ap (λ (k : ℕ). k + 3) (length-take-le at cells (omega (arith, room)))
+      in
+      let whole : firstPlace + (i + 1) * placeWidth ≡ at + 3 = omega arith in
+      let part : (i + 1) * placeWidth ≡ i * placeWidth + placeWidth = omega arith in
+      record {
+        upto = omega arith;
+        long = length-sets cells at (cellsOfPlace p) ∙ l .long;
+        laid =
+            rw (whole, sets-eq (cellsOfPlace p) cells at room, take-at (take at cells ++ cellsOfPlace p) (drop (at + 3) cells) (at + 3) front)
+            (rw (l .laid, part, take-add (i * placeWidth) placeWidth (placeCells mostRunning rs), holds .holds)
+            (append-assoc (take firstPlace old) (take (i * placeWidth) (placeCells mostRunning rs)) (cellsOfPlace p)));
+      }
+
+  pub laying-over : mostRunning ≤ i → cells ≡ take firstPlace old ++ placeCells mostRunning rs
+  laying-over h =
+      let last : i ≡ mostRunning = omega (arith, l .upto) in
+      let all : take (firstPlace + mostRunning * placeWidth) cells ≡ cells = take-all dayLength cells (omega (arith, l .long)) in
+      let every : take (mostRunning * placeWidth) (placeCells mostRunning rs) ≡ placeCells mostRunning rs =
+      take-all (mostRunning * placeWidth) (placeCells mostRunning rs) (omega (arith, places-length mostRunning rs))
+      in
+      sym all ∙ (rw last at (l .laid)) ∙ ap (λ (s : List ℕ). take firstPlace old ++ s) every
+
+-- the first three cells, once they are stored
+pub front-laid :
+    (old : List ℕ) (a b c : ℕ) → length old ≡ dayLength → take firstPlace (set (set (set old 0 a) 1 b) 2 c) ≡ a ∷ b ∷ c ∷ []
+front-laid [] a b c e = absurd (omega arith)
+front-laid (x ∷ []) a b c e = absurd (omega arith)
+front-laid (x ∷ y ∷ []) a b c e = absurd (omega arith)
+front-laid (x ∷ y ∷ z ∷ old) a b c e = refl
+
+-- the cells of a day, by its hour, its count and its places
+pub day-laid :
+    (d : DayView) {a b c : ℕ} → a ≡ getD (hourCells (d .hour)) 0 0 → b ≡ getD (hourCells (d .hour)) 1 0 → c ≡ length (d .running) →
+    (a ∷ b ∷ c ∷ []) ++ placeCells mostRunning (d .running) ≡ dayCells d
+unfolding dayCells hourCells
+day-laid d e f g = rw (e, f, g) (front (d .hour))
+  where
+    front :
+        (o : Option ℕ) →
+        (getD (hourCells o) 0 0 ∷ getD (hourCells o) 1 0 ∷ length (d .running) ∷ []) ++ placeCells mostRunning (d .running)
+        ≡ hourCells o ++ (length (d .running) ∷ placeCells mostRunning (d .running))
+    front none = refl
+    front (some h) = refl
+
+-- The cells of a day mean that day.
+
+hour-back : (o : Option ℕ) (s : List ℕ) → hourIn (getD (hourCells o ++ s) 0 0) (getD (hourCells o ++ s) 1 0) ≡ o
+unfolding hourIn hourCells
+hour-back none s = refl
+hour-back (some h) s = refl
+
+unit-back : (u s : ℕ) (k : Kind) → unitIn u (letterOf k) s ≡ record { unit = u; schedule = s; kind = k }
+unfolding unitIn kindOf
+unit-back u s M = refl
+unit-back u s C = refl
+
+units-back :
+    (rs : List RunningUnit) (n k : ℕ) (cells : List ℕ) → length rs ≤ n → drop (firstPlace + k * placeWidth) cells ≡ placeCells n rs →
+    unitsFrom cells k (length rs) ≡ rs
+unfolding unitsFrom placeCells
+units-back [] n k cells h e = refl
+units-back (r ∷ rs) zero k cells h e = absurd (not-suc-le-zero h)
+units-back (r ∷ rs) (suc n) k cells h e =
+    let at = firstPlace + k * placeWidth in
+    let still : at + 0 ≡ at = omega arith in
+    let unit : getD cells at 0 ≡ r .unit = sym (getD-drop at cells 0 0 ∙ ap (λ (j : ℕ). getD cells j 0) still) ∙ rw e in
+    let kind : getD cells (at + 1) 0 ≡ letterOf (r .kind) = sym (getD-drop at cells 1 0) ∙ rw e in
+    let schedule : getD cells (at + 2) 0 ≡ r .schedule = sym (getD-drop at cells 2 0) ∙ rw e in
+    let next : firstPlace + suc k * placeWidth ≡ at + 3 = rw (suc-mul k placeWidth) (omega arith) in
+    let rest : drop (firstPlace + suc k * placeWidth) cells ≡ placeCells n rs = rw next (sym (drop-drop 3 at cells) ∙ rw e) in
+    rw (unit, kind, schedule, unit-back (r .unit) (r .schedule) (r .kind), units-back rs n (suc k) cells (le-of-suc-le-suc h) rest)
+
+running-back :
+    (o : Option ℕ) (rs : List RunningUnit) → length rs ≤ mostRunning →
+    unitsFrom (hourCells o ++ (length rs ∷ placeCells mostRunning rs)) 0 (length rs) ≡ rs
+unfolding hourCells
+running-back none rs few = units-back rs mostRunning 0 _ few refl
+running-back (some h) rs few = units-back rs mostRunning 0 _ few refl
+
+third : (o : Option ℕ) (n : ℕ) (s : List ℕ) → getD (hourCells o ++ (n ∷ s)) 2 0 ≡ n
+unfolding hourCells
+third none n s = refl
+third (some h) n s = refl
+
+pub cells-mean : (d : DayView) → length (d .running) ≤ mostRunning → dayIn (dayCells d) ≡ d
+unfolding dayIn dayCells
+cells-mean d few =
+    rw (
+      hour-back (d .hour) (length (d .running) ∷ placeCells mostRunning (d .running)),
+      third (d .hour) (length (d .running)) (placeCells mostRunning (d .running)),
+      running-back (d .hour) (d .running) few,
+    )
+
+-- what a place holds, by the unit in it
+module _ (us : Units) (i : ℕ) (h : i < mostRunning) where
+  pub holds-unit :
+      i < us .count → i < length (us .running) → (p : Place) → p .unit ≡ getD (us .running) i unused .unit →
+      p .kind ≡ letterOf (getD (us .running) i unused .kind) → p .schedule ≡ getD (us .running) i unused .schedule → Holds (unitsOf us) i p
+  unfolding unitsOf
+  holds-unit k l p u t s =
+      record {
+        holds =
+            place-held mostRunning (firstUnits (us .count) (us .running)) i h (omega (arith, first-length (us .count) (us .running)))
+            ∙ rw (first-at missing (us .count) (us .running) i k l, u, t, s);
+      }
+
+  pub holds-nothing : us .count ≤ i → Holds (unitsOf us) i (record { unit = 0; kind = 0; schedule = 0 })
+  holds-nothing k = record { holds = place-empty mostRunning (unitsOf us) i h (omega (arith, counted us)) }
+
+-- three stores in a row
+pub three-stored :
+    (p : Place) (i : ℕ) (cells : List ℕ) {a b : ℕ} → a ≡ firstPlace + i * placeWidth + 1 → b ≡ firstPlace + i * placeWidth + 2 →
+    set (set (set cells (firstPlace + i * placeWidth) (p .unit)) a (p .kind)) b (p .schedule) ≡ placed p i cells
+unfolding placed
+three-stored p i cells e f =
+    let first : firstPlace + i * placeWidth + 1 ≡ suc (firstPlace + i * placeWidth) = omega arith in
+    let second : firstPlace + i * placeWidth + 2 ≡ suc (suc (firstPlace + i * placeWidth)) = omega arith in
+    rw (e ∙ first, f ∙ second)
+
+-- a day that is laid down: its first cells, then its places
+pub laid-down :
+    (day : Day) (old new : List ℕ) {a b : ℕ} → length (set (set (set old 0 a) 1 b) 2 (day .units .count)) ≡ dayLength →
+    a ≡ getD (hourCells (hourOf (day .hour))) 0 0 → b ≡ getD (hourCells (hourOf (day .hour))) 1 0 →
+    new ≡ take firstPlace (set (set (set old 0 a) 1 b) 2 (day .units .count)) ++ placeCells mostRunning (unitsOf (day .units)) →
+    new ≡ dayCells (viewOf day)
+unfolding viewOf
+laid-down day old new {a} {b} e f g h =
+    let long : length old ≡ dayLength =
+    sym (length-set (set (set old 0 a) 1 b) 2 (day .units .count) ∙ length-set (set old 0 a) 1 b ∙ length-set old 0 a) ∙ e
+    in
+    h ∙ rw (front-laid old _ _ (day .units .count) long) (day-laid (viewOf day) f g (sym (counted (day .units))))
+
+-- the cells of a fresh day
+pub fresh-laid :
+    (day : Day) (new : List ℕ) → viewOf day ≡ freshDay → new ≡ dayCells (viewOf day) → (new ≡ dayCells freshDay) × (dayIn new ≡ freshDay)
+unfolding freshDay
+fresh-laid day new e f =
+    let laid : new ≡ dayCells freshDay = f ∙ ap dayCells e in
+    (laid, rw laid (cells-mean freshDay (omega arith)))

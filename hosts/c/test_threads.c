@@ -1,0 +1,75 @@
+/* Threads that call at the same time, each on a day of its own, with no more stack for a call than capping.h says. A tool that
+ * watches threads sees what they share, however they happen to run. */
+#include "capping_words.h"
+#include "testing.h"
+
+#include <pthread.h>
+
+#define THREADS 4
+#define ROUNDS 500
+
+/* What capping.h says of a call, and some for the thread itself. */
+#define CALL_STACK (128 * 1024)
+#define OWN_STACK (16 * 1024)
+
+/* A thread with a day of its own, on which a unit runs that the others don't have. */
+struct worker {
+    pthread_t thread;
+    uint64_t unit;
+    int wrong;
+};
+
+/* Held until every thread is there, so that they begin together. */
+static pthread_mutex_t start = PTHREAD_MUTEX_INITIALIZER;
+
+/* Studies on a day with the worker's unit, and releases that unit. Answers how much went wrong. */
+static int work_once(uint64_t unit, struct lent files) {
+    uint64_t day[CAPPING_DAY_CELLS], studied[CAPPING_DAY_CELLS], report[3];
+    uint8_t answer[CAPPING_LONGEST_ANSWER];
+    size_t length = sizeof STARRED_ANSWER - 1;
+    int wrong = 0;
+    capping_day_fresh(day);
+    capping_day_add(day, unit, 'M', 1);
+    wrong += capping_day_study(day, LENT(files), answer, sizeof answer, report) != length;
+    wrong += memcmp(answer, STARRED_ANSWER, length) != 0;
+    wrong += !capping_day_read(studied, STARRED_DAY);
+    wrong += capping_day_release(day, unit + 1, report) != 23;
+    wrong += capping_day_equal(day, studied);
+    wrong += capping_day_release(day, unit, report) != 0;
+    wrong += !capping_day_equal(day, studied);
+    return wrong;
+}
+
+static void *work(void *given) {
+    struct worker *w = given;
+    const struct files texts = STARRED;
+    struct lent files = lend(&texts);
+    pthread_mutex_lock(&start);
+    pthread_mutex_unlock(&start);
+    for (int round = 0; round < ROUNDS; round++)
+        w->wrong += work_once(w->unit, files);
+    take_back(files);
+    return NULL;
+}
+
+int main(void) {
+    struct worker workers[THREADS] = {{0}};
+    pthread_attr_t small;
+    require("threads", "no small stack",
+            pthread_attr_init(&small) == 0 && pthread_attr_setstacksize(&small, CALL_STACK + OWN_STACK) == 0);
+    pthread_mutex_lock(&start);
+    for (int i = 0; i < THREADS; i++) {
+        workers[i].unit = 101 + (uint64_t)i;
+        if (pthread_create(&workers[i].thread, &small, work, &workers[i]) != 0) {
+            fputs("no thread\n", stderr);
+            exit(1);
+        }
+    }
+    pthread_mutex_unlock(&start);
+    for (int i = 0; i < THREADS; i++) {
+        pthread_join(workers[i].thread, NULL);
+        require("threads", "a wrong day", workers[i].wrong == 0);
+    }
+    pthread_attr_destroy(&small);
+    return failures == 0 ? 0 : 1;
+}

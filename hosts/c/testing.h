@@ -1,0 +1,117 @@
+/* What the test programs share: the files of studies, what is lent to a call, and the count of what went wrong. What is lent is
+ * allocated just as long as it is said to be, so that a tool that watches memory sees a byte touched beside it. */
+#ifndef TESTING_H
+#define TESTING_H
+
+#include "capping.h"
+
+#include <stdio.h>
+#include <stdlib.h>
+#include <string.h>
+
+#define CONSTRAINT "hour,relief,cutoff\r\n"
+#define SUPPLY "unit,supplier,mw,cost,dfax\r\n"
+#define SCHEDULES "unit,schedule,kind,hour,ecomin,price,noload,startup,minrun\r\n"
+#define ANSWER_HEADER "unit,supplier,verdict,left,schedule,kind,cost\r\n"
+#define HOUR_5 CONSTRAINT "5,1000,300\r\n"
+
+/* The starred example of document 01, its answer, and the day after it. */
+#define STARRED_SUPPLY SUPPLY "11,1,1000,3000,5000\r\n12,2,1000,3000,-5000\r\n13,3,1000,4000,5000\r\n14,4,2000,2000,200\r\n"
+#define STARRED_SCHEDULES \
+    SCHEDULES "11,1,M,5,100,4000,50000,20000,1\r\n11,2,C,5,100,3000,50000,20000,1\r\n" \
+              "12,1,M,5,100,3300,0,0,1\r\n12,2,C,5,100,3000,0,0,1\r\n13,1,C,5,200,4000,0,1000,1\r\n" \
+              "14,1,M,5,100,5000,0,0,1\r\n14,2,C,5,100,2000,0,0,1\r\n"
+#define STARRED_ANSWER \
+    ANSWER_HEADER "11,1,F,0,2,C,1030000\r\n12,2,F,0,1,M,330000\r\n13,3,F,0,1,C,890000\r\n14,4,F,5000000,1,M,500000\r\n"
+#define STARRED_DAY "5;11:C:2,12:M:1,13:C:1,14:M:1"
+
+/* The files of a study, as their texts. */
+struct files {
+    const char *constraint;
+    const char *supply;
+    const char *schedules;
+};
+
+#define STARRED {HOUR_5, STARRED_SUPPLY, STARRED_SCHEDULES}
+#define NO_UNITS {HOUR_5, SUPPLY, SCHEDULES}
+
+/* A study: how long a buffer is lent, what is written or else what is reported. */
+struct study {
+    const char *name;
+    size_t room;
+    const char *answer;
+    uint64_t report[3];
+    struct files files;
+};
+
+#define DAY_BYTES (CAPPING_DAY_CELLS * sizeof(uint64_t))
+
+/* What stands before a call in each byte, and in each cell of a report, that it may write. */
+#define UNTOUCHED_BYTE 0xA5
+#define UNTOUCHED UINT64_C(0xA5A5A5A5A5A5A5A5)
+
+static int failures;
+
+static inline void require(const char *name, const char *what, int kept) {
+    if (!kept) {
+        printf("%s: %s\n", name, what);
+        failures++;
+    }
+}
+
+/* So much memory and not a byte more, not even one where that is 0. */
+static inline void *untouched(size_t length) {
+    void *room = malloc(length);
+    if (room == NULL) {
+        fputs("no memory\n", stderr);
+        exit(1);
+    }
+    return memset(room, UNTOUCHED_BYTE, length);
+}
+
+static inline void *copy_of(const void *bytes, size_t length) {
+    return memcpy(untouched(length), bytes, length);
+}
+
+/* Files as a call takes them. */
+struct lent {
+    uint8_t *constraint, *supply, *schedules;
+    size_t constraint_len, supply_len, schedules_len;
+};
+
+#define LENT(l) (l).constraint, (l).constraint_len, (l).supply, (l).supply_len, (l).schedules, (l).schedules_len
+
+static inline struct lent lend(const struct files *f) {
+    struct lent l = {NULL, NULL, NULL, strlen(f->constraint), strlen(f->supply), strlen(f->schedules)};
+    l.constraint = copy_of(f->constraint, l.constraint_len);
+    l.supply = copy_of(f->supply, l.supply_len);
+    l.schedules = copy_of(f->schedules, l.schedules_len);
+    return l;
+}
+
+static inline void take_back(struct lent l) {
+    free(l.constraint);
+    free(l.supply);
+    free(l.schedules);
+}
+
+/* Studies on the day, or on a fresh one where that is NULL. */
+static inline void expect_study(const struct study *s, uint64_t *day) {
+    struct lent files = lend(&s->files);
+    uint8_t *answer = untouched(s->room);
+    uint64_t *report = untouched(sizeof s->report);
+    uint64_t count = day == NULL ? capping_study(LENT(files), answer, s->room, report)
+                                 : capping_day_study(day, LENT(files), answer, s->room, report);
+    size_t length = strlen(s->answer), changed = 0;
+    for (size_t i = length; i < s->room; i++)
+        changed += answer[i] != UNTOUCHED_BYTE;
+    require(s->name, "another count", count == length);
+    require(s->name, "another answer", length <= s->room && memcmp(answer, s->answer, length) == 0);
+    require(s->name, "a byte changed past the answer", changed == 0);
+    require(s->name, "another report", memcmp(report, s->report, sizeof s->report) == 0);
+    free(report);
+    free(answer);
+    take_back(files);
+}
+
+#endif

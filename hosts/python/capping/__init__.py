@@ -1,0 +1,15 @@
+"""The offer capping engine as Python programs call it, so that a seller's script can check its files before it sends them.
+
+    day = capping.Day.fresh()
+    answer = day.study(constraint, supply, schedules)
+
+Files are bytes, and so is the answer; what is refused raises `Refused`. Nothing is kept but in a `Day`, so threads may call at
+the same time. `python3 -m capping --help` is the same for people.
+"""
+from .calls import TEST_REFUSED, VERDICTS, check, study, test
+from .day import Day
+from .engine import DAY_CELLS, LONGEST_ANSWER, MOST_64_BIT
+from .refusal import FILES, MEANINGS, PLACE_IS_A_UNIT, PLACE_IS_THE_FILE, Refused
+from .view import Running
+
+__all__ = ["DAY_CELLS", "LONGEST_ANSWER", "Day", "Refused", "Running", "check", "study", "test"]

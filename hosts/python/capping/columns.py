@@ -1,0 +1,91 @@
+"""The three files as document 01 has them: the name of each, how many rows it may have, and its columns with their ranges.
+
+The engine has its own table; this one is for telling people, and tests hold it to the engine.
+"""
+import re
+import typing
+
+NUMERAL = re.compile(rb"0|[1-9][0-9]*")
+SIGNED = re.compile(rb"0|-?[1-9][0-9]*")
+LETTER = re.compile(rb"[MC]")
+
+HOW_WRITTEN = {
+    NUMERAL: "in digits alone with no leading zero",
+    SIGNED: "in digits with no leading zero, and with - in front if it is below 0",
+}
+
+# A field with more bytes than this is out of every range.
+LONGEST_FIELD = 9
+
+
+class Column(typing.NamedTuple):
+    """A column: its name, its least and its largest number, what these count, and how they are written."""
+
+    name: str
+    minimum: int = 0
+    maximum: int = 0
+    measure: str = ""
+    form: re.Pattern = NUMERAL
+
+    def permits(self, field):
+        """Whether the column may have this field, by its bytes without quotes around them."""
+        if not self.form.fullmatch(field):
+            return False
+        return self.form is LETTER or (len(field) <= LONGEST_FIELD and self.minimum <= int(field) <= self.maximum)
+
+    def permitted(self):
+        """What the column may have, in plain words."""
+        if self.form is LETTER:
+            return "M or C"
+        measure = f" ({self.measure})" if self.measure else ""
+        return f"a whole number from {self.minimum} to {self.maximum}{measure}, {HOW_WRITTEN[self.form]}"
+
+
+class File(typing.NamedTuple):
+    """A file of a study: its name in the folder, how many rows it may have, and its columns."""
+
+    name: str
+    rows: str
+    columns: typing.Tuple[Column, ...]
+
+    def header(self):
+        """The header record."""
+        return ",".join(column.name for column in self.columns)
+
+
+UNIT = Column("unit", 1, 9999)
+HOUR = Column("hour", 0, 23)
+
+CONSTRAINT = File(
+    "constraint.csv",
+    "exactly one",
+    (HOUR, Column("relief", 1, 1000000, "tenths of a MW"), Column("cutoff", 1, 10000, "ten-thousandths")),
+)
+SUPPLY = File(
+    "supply.csv",
+    "at most 256",
+    (
+        UNIT,
+        Column("supplier", 1, 999),
+        Column("mw", 1, 100000, "tenths of a MW"),
+        Column("cost", 0, 200000, "cents per MWh"),
+        Column("dfax", -10000, 10000, "ten-thousandths", SIGNED),
+    ),
+)
+SCHEDULES = File(
+    "schedules.csv",
+    "at most 1024",
+    (
+        UNIT,
+        Column("schedule", 1, 99),
+        Column("kind", form=LETTER),
+        HOUR,
+        Column("ecomin", 0, 100000, "tenths of a MW"),
+        Column("price", 0, 200000, "cents per MWh"),
+        Column("noload", 0, 100000000, "cents per hour"),
+        Column("startup", 0, 100000000, "cents"),
+        Column("minrun", 1, 24, "hours"),
+    ),
+)
+FILES = (CONSTRAINT, SUPPLY, SCHEDULES)
+"""The files by rising number; the first is file 1."""

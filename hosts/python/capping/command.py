@@ -1,0 +1,86 @@
+"""The command for people: checks and studies the files of a folder, and keeps a day in a file."""
+import contextlib
+import os
+import sys
+
+from . import usage
+from .day import Day
+from .explain import explained
+from .files import TooLong, Unreadable, naming, read_day, read_folder, replacing
+from .refusal import Refused
+
+ANSWERED, REFUSED, UNUSABLE = 0, 1, 2
+STANDARD_OUTPUT = 1
+
+
+class Told(Exception):
+    """A refusal, told in plain words."""
+
+
+def main(arguments=None):
+    """Runs the command, and answers its exit status."""
+    asked = usage.read(arguments)
+    try:
+        COMMANDS[asked.command](asked)
+    except (Told, TooLong) as refusal:
+        return _say(REFUSED, refusal)
+    except Unreadable as error:
+        return _say(UNUSABLE, error)
+    except OSError as error:
+        return _say(UNUSABLE, f"{error.filename}: {error.strerror}" if error.strerror else error)
+    return ANSWERED
+
+
+def _say(status, words):
+    print(words, file=sys.stderr)
+    return status
+
+
+def _check(asked):
+    _studied(Day.fresh(), asked.folder)
+    _print(b"nothing to refuse\n")
+
+
+def _study(asked):
+    day = Day.fresh() if asked.day is None else _day_so_far(asked.day)
+    answer = _studied(day, asked.folder)
+    with contextlib.nullcontext() if asked.day is None else replacing(asked.day, day):
+        _print(answer)
+
+
+def _release(asked):
+    day = read_day(asked.day)
+    with _telling((), day):
+        day.release(asked.unit)
+    with replacing(asked.day, day):
+        pass
+
+
+COMMANDS = {"check": _check, "study": _study, "release": _release}
+
+
+def _day_so_far(path):
+    try:
+        return read_day(path)
+    except FileNotFoundError:
+        return Day.fresh()
+
+
+def _studied(day, folder):
+    files = read_folder(folder)
+    with _telling(files, day):
+        return day.study(*files)
+
+
+@contextlib.contextmanager
+def _telling(files, day):
+    try:
+        yield
+    except Refused as refused:
+        raise Told("\n".join(explained(refused, files, day))) from refused
+
+
+def _print(content):
+    """Prints bytes as they are. That it went well is certain when it returns, which is before a day is replaced."""
+    with naming("standard output"), os.fdopen(os.dup(STANDARD_OUTPUT), "wb") as out:
+        out.write(content)

@@ -1,0 +1,97 @@
+"""A day, which studies and releases move on. Assumes nothing of its cells: the engine refuses an ill-formed day with 24."""
+import functools
+import operator
+
+from . import words
+from .engine import DAY_CELLS, LONGEST_ANSWER, MOST_64_BIT, DayCells, Report, answer_of, functions, lent, refuse
+from .view import lay_down, seen
+
+# No unit has this number, so none is running under it.
+NO_UNIT = 0
+
+
+class Day:
+    """A day: the hour of its last study, and the running units.
+
+    A refused call raises `Refused` and leaves the day as it was. Threads may each use a day of their own at once. Days are
+    equal that have the same hour and the same running units. `str` gives a day's words, as in 5;11:C:2,12:M:1, and `Day.parse`
+    reads them: they are what to keep where a day outlives a program.
+    """
+
+    __slots__ = ("_cells",)
+
+    def __init__(self):
+        self._cells = DayCells()
+        functions().capping_day_fresh(self._cells)
+
+    @classmethod
+    def fresh(cls):
+        """A day before its first study."""
+        return cls()
+
+    @classmethod
+    def from_cells(cls, cells):
+        """The day that stored cells are."""
+        cells = tuple(cells)
+        if len(cells) != DAY_CELLS or not all(0 <= cell <= MOST_64_BIT for cell in cells):
+            raise ValueError(f"a day is {DAY_CELLS} numbers of 64 bits")
+        day = cls()
+        day._cells[:] = cells
+        return day
+
+    @classmethod
+    def parse(cls, text):
+        """The day whose words these are; a ValueError says what is wrong with them."""
+        day = cls()
+        lay_down(words.read(text), day._cells)
+        return day
+
+    @property
+    def cells(self):
+        """The cells, to store."""
+        return tuple(self._cells)
+
+    @property
+    def hour(self):
+        """The hour of the last accepted study, or None."""
+        return seen(self._cells).hour
+
+    @property
+    def running(self):
+        """The running units, each with unit, kind and schedule, at most 64, as the engine sees them."""
+        return seen(self._cells).running
+
+    def study(self, constraint, supply, schedules, room=LONGEST_ANSWER):
+        """Studies the three files, each as bytes, on this day, and answers the answer file. `room` is how long a buffer is
+        lent to it; the longest answer always fits."""
+        files = lent(constraint, supply, schedules)
+        cells = self._copied()
+        answer = answer_of(functools.partial(functions().capping_day_study, cells, *files), room)
+        self._cells = cells
+        return answer
+
+    def release(self, unit):
+        """Takes a running unit out, and changes nothing else."""
+        unit = operator.index(unit)
+        cells, report = self._copied(), Report()
+        functions().capping_day_release(cells, unit if 0 <= unit <= MOST_64_BIT else NO_UNIT, report)
+        refuse(report)
+        self._cells = cells
+
+    def _copied(self):
+        """Cells for a call to write into: whoever looks at the day meanwhile sees it before or after, never in between."""
+        return DayCells.from_buffer_copy(self._cells)
+
+    def __str__(self):
+        return words.written(seen(self._cells))
+
+    def __repr__(self):
+        return f"{type(self).__name__}.parse({str(self)!r})"
+
+    def __eq__(self, other):
+        return seen(self._cells) == seen(other._cells) if isinstance(other, Day) else NotImplemented
+
+    __hash__ = None
+
+    def __reduce__(self):
+        return type(self).from_cells, (self.cells,)

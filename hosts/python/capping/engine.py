@@ -1,0 +1,74 @@
+"""The engine's own functions by ctypes, and what is lent to them.
+
+They are in target/hosts-python/libcapping.so below the repository's root, which hosts/python/build links; it is loaded at the
+first call. A call keeps nothing and lets other threads run meanwhile.
+"""
+import ctypes
+import functools
+import pathlib
+
+from .refusal import Refused
+
+SHARED_OBJECT = pathlib.Path(__file__).resolve().parents[3] / "target" / "hosts-python" / "libcapping.so"
+
+LONGEST_ANSWER = 2799
+"""How many bytes the longest answer file has."""
+
+DAY_CELLS = 195
+"""How many 64-bit cells a day has."""
+
+MOST_64_BIT = 2**64 - 1
+
+DayCells = ctypes.c_uint64 * DAY_CELLS
+Report = ctypes.c_uint64 * 3
+
+
+@functools.cache
+def functions():
+    """The functions, with the types of what they take and answer."""
+    try:
+        return _typed(ctypes.CDLL(str(SHARED_OBJECT)))
+    except (OSError, AttributeError) as error:
+        raise OSError(f"{error}; hosts/python/build links it anew") from error
+
+
+def _typed(library):
+    number, length = ctypes.c_uint64, ctypes.c_size_t
+    files = [ctypes.c_char_p, length] * 3
+    study = [*files, ctypes.c_char_p, length, Report]
+    amounts = [ctypes.POINTER(number), length]
+    for name, takes, answers in (
+        ("capping_check", files, number),
+        ("capping_study", study, number),
+        ("capping_test", [*amounts, number, number, ctypes.POINTER(number)], number),
+        ("capping_day_fresh", [DayCells], None),
+        ("capping_day_study", [DayCells, *study], number),
+        ("capping_day_release", [DayCells, number, Report], number),
+    ):
+        function = getattr(library, name)
+        function.argtypes, function.restype = takes, answers
+    return library
+
+
+def lent(*files):
+    """Each file as a pointer and a length."""
+    held = [bytes(file) for file in files]
+    return [part for file in held for part in (file, len(file))]
+
+
+def answer_of(study, room):
+    """What a study writes into a buffer of so many bytes; `study` is its call but for the buffer and the report."""
+    if room < 0:
+        raise ValueError("a buffer has no negative length")
+    answer = ctypes.create_string_buffer(max(room, 1))
+    report = Report()
+    count = study(answer, room, report)
+    refuse(report)
+    return answer.raw[:count]
+
+
+def refuse(report):
+    """Raises the refusal that a report tells of, if it tells of one."""
+    number, file, place = report
+    if number != 0:
+        raise Refused(number, file, place)

@@ -1,0 +1,142 @@
+"""A refusal in plain words for the person whose files were refused: what it means, where, and what should stand there.
+
+Assumes that these are the files that were refused, so that they keep every rule that comes before.
+"""
+from . import columns, odds
+from .records import NotCsv, records
+
+PAGE = "docs/REFUSALS.md"
+LONGEST_SHOWN = 120
+LONGEST_DAY_SHOWN = 1000
+MOST_UNITS = 64
+MOST_SUPPLIERS = 32
+HOUR_TOO_EARLY = 20
+TOO_MANY_RUNNING = 22
+OF_THE_DAY = range(20, 25)
+
+
+def explained(refused, files, day):
+    """The lines that say why a study of the files on a day, or a release from it, was refused."""
+    lines = [f"refused with {refused.number}: {refused.meaning}"]
+    if refused.file != 0:
+        lines += DETAILS[refused.number](_spot(files, refused.file, refused.place))
+    if refused.number == HOUR_TOO_EARLY:
+        lines.append(_spot(files, file=1, place=1).line())
+    if refused.number == TOO_MANY_RUNNING:
+        lines.append(_crowd(_spot(files, file=2), day))
+    if refused.number in OF_THE_DAY:
+        lines.append(f"the day: {shown(str(day).encode(), LONGEST_DAY_SHOWN)}")
+    return [*lines, f"{PAGE} says how to mend it, under {refused.number}"]
+
+
+def shown(content, longest=LONGEST_SHOWN):
+    """Bytes as they stand in a file, on one line: unusual ones escaped, and only the first of very many."""
+    text = content[:longest].decode("latin-1").encode("unicode_escape").decode("ascii")
+    rest = len(content) - longest
+    return f"{text} .. and {counted(rest, 'byte')} more" if rest > 0 else text or "(blank)"
+
+
+def counted(count, thing):
+    return f"{count} {thing}" if count == 1 else f"{count} {thing}s"
+
+
+class Spot:
+    """Where a refusal points: a file, and a record of it or a unit."""
+
+    def __init__(self, file, content, place):
+        self.file = file
+        self.content = content
+        self.place = place
+
+    def records(self):
+        return records(self.content)
+
+    def rows(self):
+        """The fields of each record by their columns' names; the header's first."""
+        names = [column.name for column in self.file.columns]
+        return [dict(zip(names, record.fields)) for record in self.records()]
+
+    def line(self):
+        """The record as it stands."""
+        return f"{self.file.name}, record {self.place}: {shown(self.records()[self.place].raw)}"
+
+
+def _spot(files, file, place=0):
+    return Spot(columns.FILES[file - 1], files[file - 1], place)
+
+
+def _record(spot):
+    return [spot.line()]
+
+
+def _unit(spot):
+    return [f"{spot.file.name}, unit {spot.place}"]
+
+
+def _not_csv(spot):
+    try:
+        spot.records()
+    except NotCsv as found:
+        return [f"{spot.file.name}, record {found.record}, goes wrong in field {found.field}: {shown(found.rest)}"]
+
+
+def _misshapen(spot):
+    if spot.content == b"":
+        return [f"{spot.file.name} is empty or isn't there", f"its header should be: {spot.file.header()}"]
+    if spot.place == 0:
+        return [spot.line(), f"the header should be: {spot.file.header()}"]
+    has = counted(len(spot.records()[spot.place].fields), "field")
+    return [spot.line(), f"it has {has} and should have {len(spot.file.columns)}"]
+
+
+def _out_of_range(spot):
+    fields = zip(spot.file.columns, spot.records()[spot.place].fields)
+    bad = ((at, column, field) for at, (column, field) in enumerate(fields, start=1) if not column.permits(field))
+    at, column, field = next(bad)
+    return [spot.line(), f"field {at}, {column.name}: {shown(field)}", f"it should be {column.permitted()}"]
+
+
+def _row_count(spot):
+    rows = counted(len(spot.records()) - 1, "row")
+    return [f"{spot.file.name} has {rows} below its header and should have {spot.file.rows}"]
+
+
+def _too_many(spot):
+    rows = spot.rows()[1 : spot.place + 1]
+    units, suppliers = (len({row[name] for row in rows}) for name in ("unit", "supplier"))
+    return [
+        spot.line(),
+        f"with it there are {counted(units, 'unit')} (of at most {MOST_UNITS}) "
+        f"and {counted(suppliers, 'supplier')} (of at most {MOST_SUPPLIERS})",
+    ]
+
+
+def _at_odds(spot):
+    between = ODDS[spot.file.name]
+    rows = spot.rows()
+    all_odds = ((earlier, between(rows[spot.place], rows[earlier])) for earlier in range(1, spot.place))
+    earlier, words = next(found for found in all_odds if found[1])
+    text = shown(spot.records()[earlier].raw)
+    return [spot.line(), f"at odds with record {earlier}, which has {words}: {text}"]
+
+
+def _crowd(spot, day):
+    running = {unit for unit, _, _ in day.running}
+    filed = {int(row["unit"]) for row in spot.rows()[1:]}
+    return f"units that run already: {len(running)}, further units in {spot.file.name}: {len(filed - running)}"
+
+
+ODDS = {columns.SUPPLY.name: odds.between_supply_rows, columns.SCHEDULES.name: odds.between_schedule_rows}
+
+DETAILS = {
+    1: _not_csv,
+    2: _misshapen,
+    3: _out_of_range,
+    4: _row_count,
+    5: _too_many,
+    6: _at_odds,
+    7: _record,
+    8: _unit,
+    9: _unit,
+    21: _unit,
+}

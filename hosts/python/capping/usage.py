@@ -1,0 +1,72 @@
+"""The command's arguments, and what --help says of them."""
+import argparse
+import pathlib
+
+from .words import NUMERAL
+
+FOLDER = """
+FOLDER holds constraint.csv, supply.csv and schedules.csv, each of at most
+64 KiB; one that isn't there counts as empty.
+"""
+DAY = """
+FILE holds a day on one line: the hour of its last study (n for none), a
+semicolon, and the running units with kind and schedule, as in
+5;11:C:2,12:M:1. A fresh day is the line -. FILE is written whole or not at
+all, and a refusal leaves it as it was. Use it from one command at a time.
+"""
+REFUSALS = """
+A refusal is told on standard error: its number and what it means, the file,
+the record and what should stand there. docs/REFUSALS.md says how to mend it.
+
+exit status:
+  0  there is an answer, or nothing to refuse
+  1  refused
+  2  wrong usage, or a file or a day that can't be read or written
+"""
+DESCRIPTION = "Runs the offer capping engine on the files of a folder."
+LAYOUT = {"formatter_class": argparse.RawDescriptionHelpFormatter, "allow_abbrev": False}
+
+
+def read(arguments):
+    """What is asked: the name of a command with its folder, day and unit. Wrong usage and --help end the program."""
+    epilog = FOLDER + DAY + REFUSALS
+    parser = argparse.ArgumentParser(prog="python3 -m capping", description=DESCRIPTION, epilog=epilog, **LAYOUT)
+    commands = parser.add_subparsers(dest="command", metavar="COMMAND", required=True)
+    _check(commands)
+    _study(commands)
+    _release(commands)
+    return parser.parse_args(arguments)
+
+
+def _check(commands):
+    does = "check the files of a folder"
+    command = commands.add_parser("check", help=does, description=does, epilog=FOLDER + REFUSALS, **LAYOUT)
+    _takes_folder(command)
+
+
+def _study(commands):
+    does = "study the files of a folder, and print the answer file"
+    command = commands.add_parser("study", help=does, description=does, epilog=FOLDER + DAY + REFUSALS, **LAYOUT)
+    _takes_folder(command)
+    _takes_day(command, "the day to study on and to move on; fresh if FILE isn't there. Without it, a fresh day")
+
+
+def _release(commands):
+    does = "release a running unit from a day"
+    command = commands.add_parser("release", help=does, description=does, epilog=DAY + REFUSALS, **LAYOUT)
+    command.add_argument("unit", metavar="UNIT", type=_unit, help="the unit's number")
+    _takes_day(command, "the day that it runs in; FILE must be there", required=True)
+
+
+def _takes_folder(command):
+    command.add_argument("folder", metavar="FOLDER", type=pathlib.Path, help="where the three files are")
+
+
+def _takes_day(command, words, required=False):
+    command.add_argument("--day", metavar="FILE", type=pathlib.Path, required=required, help=words)
+
+
+def _unit(word):
+    if not NUMERAL.fullmatch(word):
+        raise argparse.ArgumentTypeError(f"{word!r} isn't a unit's number")
+    return int(word)

@@ -1,0 +1,38 @@
+"""What the tests share: the starred example of document 01 with its answers, and how a refusal is expected."""
+import unittest
+
+import capping
+
+CONSTRAINT = b"hour,relief,cutoff\r\n"
+SUPPLY = b"unit,supplier,mw,cost,dfax\r\n"
+SCHEDULES = b"unit,schedule,kind,hour,ecomin,price,noload,startup,minrun\r\n"
+ANSWER = b"unit,supplier,verdict,left,schedule,kind,cost\r\n"
+HOUR_5 = CONSTRAINT + b"5,1000,300\r\n"
+
+STARRED_SUPPLY = SUPPLY + b"11,1,1000,3000,5000\r\n12,2,1000,3000,-5000\r\n13,3,1000,4000,5000\r\n14,4,2000,2000,200\r\n"
+STARRED_SCHEDULES = (
+    SCHEDULES
+    + b"11,1,M,5,100,4000,50000,20000,1\r\n11,2,C,5,100,3000,50000,20000,1\r\n"
+    + b"12,1,M,5,100,3300,0,0,1\r\n12,2,C,5,100,3000,0,0,1\r\n13,1,C,5,200,4000,0,1000,1\r\n"
+    + b"14,1,M,5,100,5000,0,0,1\r\n14,2,C,5,100,2000,0,0,1\r\n"
+)
+STARRED = (HOUR_5, STARRED_SUPPLY, STARRED_SCHEDULES)
+STARRED_ANSWER = ANSWER + b"11,1,F,0,2,C,1030000\r\n12,2,F,0,1,M,330000\r\n13,3,F,0,1,C,890000\r\n14,4,F,5000000,1,M,500000\r\n"
+
+# The same study again, with its units running: no startup is paid, and only the hour itself.
+AGAIN_ANSWER = ANSWER + b"11,1,F,0,2,C,830000\r\n12,2,F,0,1,M,330000\r\n13,3,F,0,1,C,880000\r\n14,4,F,5000000,1,M,500000\r\n"
+STARRED_DAY = "5;11:C:2,12:M:1,13:C:1,14:M:1"
+
+
+def others(count):
+    """A day of hour 5 with so many units running that the starred example doesn't have."""
+    return "5;" + ",".join(f"{unit}:M:1" for unit in range(101, 101 + count))
+
+
+class Case(unittest.TestCase):
+    def refused(self, number, file, place, call, *arguments, **named):
+        with self.assertRaises(capping.Refused) as raised:
+            call(*arguments, **named)
+        told = raised.exception
+        self.assertEqual((told.number, told.file, told.place), (number, file, place))
+        return str(told)

@@ -1,0 +1,186 @@
+"""Cases of the command, run as people run it, each in a folder of its own. Answers were worked from document 01."""
+import pathlib
+import shutil
+import subprocess
+import sys
+import tempfile
+import unittest
+
+from starred import AGAIN_ANSWER, STARRED, STARRED_ANSWER, STARRED_DAY, SUPPLY
+
+PACKAGES = pathlib.Path(__file__).resolve().parent
+NAMES = ("constraint.csv", "supply.csv", "schedules.csv")
+MOST_BYTES = 65536
+
+
+class Case(unittest.TestCase):
+    def setUp(self):
+        room = tempfile.TemporaryDirectory()
+        self.addCleanup(room.cleanup)
+        self.room = pathlib.Path(room.name)
+        self.folder = self.room / "study"
+        self.folder.mkdir()
+        self.day = self.room / "day"
+        for name, content in zip(NAMES, STARRED):
+            (self.folder / name).write_bytes(content)
+
+    def run_command(self, *arguments, packages=PACKAGES, stdout=subprocess.PIPE):
+        command = [sys.executable, "-B", "-m", "capping", *map(str, arguments)]
+        return subprocess.run(command, cwd=packages, stdout=stdout, stderr=subprocess.PIPE, check=False)
+
+    def answers(self, printed, *arguments):
+        """Requires the command to print these bytes, and nothing on standard error."""
+        ran = self.run_command(*arguments)
+        self.assertEqual((ran.returncode, ran.stdout, ran.stderr), (0, printed, b""))
+
+    def fails(self, status, words, *arguments, **named):
+        """Requires the command to end with this status, print no answer and tell these words; the day stays as it was."""
+        before = self.day.read_bytes() if self.day.exists() else None
+        ran = self.run_command(*arguments, **named)
+        self.assertEqual((ran.returncode, ran.stdout or b""), (status, b""))
+        self.assertIn(words, ran.stderr.decode())
+        self.assertNotIn("Traceback", ran.stderr.decode())
+        self.assertEqual(self.day.read_bytes() if self.day.exists() else None, before)
+        self.nothing_left_over()
+
+    def nothing_left_over(self):
+        self.assertLessEqual({path.name for path in self.room.iterdir()}, {"study", "day"})
+
+
+class Check(Case):
+    def test_nothing_to_refuse(self):
+        self.answers(b"nothing to refuse\n", "check", self.folder)
+
+    def test_refused(self):
+        (self.folder / "supply.csv").write_bytes(SUPPLY + b"11,1,0,3000,5000\r\n")
+        words = (
+            "refused with 3: a field is ill-formed or out of range\n"
+            "supply.csv, record 1: 11,1,0,3000,5000\n"
+            "field 3, mw: 0\n"
+            "it should be a whole number from 1 to 100000 (tenths of a MW), in digits alone with no leading zero\n"
+            "docs/REFUSALS.md says how to mend it, under 3\n"
+        )
+        self.fails(1, words, "check", self.folder)
+
+    def test_missing_file(self):
+        (self.folder / "schedules.csv").unlink()
+        self.fails(1, "schedules.csv is empty or isn't there\n", "check", self.folder)
+
+    def test_length(self):
+        supply = self.folder / "supply.csv"
+        supply.write_bytes(b"x" * MOST_BYTES)
+        self.fails(1, "refused with 2: ", "check", self.folder)
+        supply.write_bytes(b"x" * (MOST_BYTES + 1))
+        (self.folder / "constraint.csv").unlink()
+        self.fails(1, "refused: supply.csv is too long, a file may have 65536 bytes\n", "check", self.folder)
+
+
+class Study(Case):
+    def test_without_a_day(self):
+        self.answers(STARRED_ANSWER, "study", self.folder)
+        self.answers(STARRED_ANSWER, "study", self.folder)
+        self.assertFalse(self.day.exists())
+
+    def test_day_moves_on(self):
+        self.answers(STARRED_ANSWER, "study", self.folder, "--day", self.day)
+        self.assertEqual(self.day.read_text(), STARRED_DAY + "\n")
+        self.answers(AGAIN_ANSWER, "study", self.folder, "--day", self.day)
+        self.assertEqual(self.day.read_text(), STARRED_DAY + "\n")
+        self.nothing_left_over()
+
+    def test_day_as_people_write_it(self):
+        for line in (b"-", b"-\n", b"-\r\n", b"n;\n", b"4;\n"):
+            self.day.write_bytes(line)
+            self.answers(STARRED_ANSWER, "study", self.folder, "--day", self.day)
+            self.assertEqual(self.day.read_text(), STARRED_DAY + "\n")
+
+    def test_refused(self):
+        self.day.write_text("6;11:M:1\n")
+        words = "refused with 20: the hour is earlier than the day's\nconstraint.csv, record 1: 5,1000,300\n"
+        self.fails(1, words, "study", self.folder, "--day", self.day)
+        self.day.write_text("24;\n")
+        self.fails(1, "refused with 24: the day is ill-formed\n", "study", self.folder, "--day", self.day)
+
+    def test_refused_without_a_day_so_far(self):
+        (self.folder / "supply.csv").unlink()
+        self.fails(1, "refused with 2: ", "study", self.folder, "--day", self.day)
+
+    def test_day_that_is_none(self):
+        for content in (b"", b"\n", b"five\n", b"5;11:X:2\n", b"-\n-\n", b"5;\xff\n"):
+            self.day.write_bytes(content)
+            self.fails(2, f"{self.day} holds no day: ", "study", self.folder, "--day", self.day)
+
+    def test_day_that_cant_be_written(self):
+        day = self.room / "no folder" / "day"
+        self.fails(2, f"{day}: No such file or directory\n", "study", self.folder, "--day", day)
+
+    def test_answer_that_cant_be_printed(self):
+        with open("/dev/full", "wb") as full:
+            self.fails(2, "standard output: ", "study", self.folder, "--day", self.day, stdout=full)
+            self.day.write_text("4;\n")
+            self.fails(2, "standard output: ", "study", self.folder, "--day", self.day, stdout=full)
+
+    def test_mode_and_link_are_kept(self):
+        self.day.write_text("4;\n")
+        self.day.chmod(0o640)
+        link = self.folder / "link"
+        link.symlink_to(self.day)
+        self.answers(STARRED_ANSWER, "study", self.folder, "--day", link)
+        self.assertTrue(link.is_symlink())
+        self.assertEqual((self.day.read_text(), self.day.stat().st_mode & 0o777), (STARRED_DAY + "\n", 0o640))
+
+
+class Release(Case):
+    def test_unit_taken_out(self):
+        self.day.write_text(STARRED_DAY)
+        self.answers(b"", "release", 12, "--day", self.day)
+        self.assertEqual(self.day.read_text(), "5;11:C:2,13:C:1,14:M:1\n")
+        self.nothing_left_over()
+
+    def test_refused(self):
+        self.day.write_text(STARRED_DAY)
+        words = f"refused with 23: the unit to release isn't running\nthe day: {STARRED_DAY}\n"
+        self.fails(1, words, "release", 15, "--day", self.day)
+        self.fails(1, "refused with 23: ", "release", 2**64 + 11, "--day", self.day)
+        self.day.write_text("5;12:M:1,11:C:2")
+        self.fails(1, "refused with 24: ", "release", 11, "--day", self.day)
+
+    def test_day_that_cant_be_read(self):
+        self.fails(2, f"{self.day}: No such file or directory\n", "release", 11, "--day", self.day)
+        self.fails(2, f"{self.folder}: Is a directory\n", "release", 11, "--day", self.folder)
+        self.day.write_text("11")
+        self.fails(2, f"{self.day} holds no day: ", "release", 11, "--day", self.day)
+
+
+class Usage(Case):
+    def test_wrong(self):
+        for arguments in (
+            (),
+            ("tidy", self.folder),
+            ("check",),
+            ("check", self.folder, "--day", self.day),
+            ("study", self.folder, "--da", self.day),
+            ("release", 11),
+            ("release", "-1", "--day", self.day),
+            ("release", "011", "--day", self.day),
+        ):
+            self.fails(2, "usage: python3 -m capping", *arguments)
+
+    def test_no_folder(self):
+        self.fails(2, f"{self.day} isn't a folder\n", "check", self.day)
+
+    def test_help(self):
+        for arguments in ((), ("check",), ("study",), ("release",)):
+            ran = self.run_command(*arguments, "--help")
+            self.assertEqual((ran.returncode, ran.stderr), (0, b""))
+            for words in (b"exit status:", b"  0  there", b"  1  refused", b"  2  wrong usage", b"docs/REFUSALS.md"):
+                self.assertIn(words, ran.stdout)
+
+    def test_without_the_engine(self):
+        packages = self.folder / "hosts" / "python"
+        shutil.copytree(PACKAGES / "capping", packages / "capping", ignore=shutil.ignore_patterns("__pycache__"))
+        self.fails(2, "hosts/python/build links it anew", "check", self.folder, packages=packages)
+
+
+if __name__ == "__main__":
+    unittest.main()

@@ -1,0 +1,47 @@
+//! What the tests share: the headers, three files as text, and the starred example of document 01 with its answer.
+#![allow(dead_code)] // No test uses all of it.
+use capping::Refusal;
+
+pub const CONSTRAINT: &str = "hour,relief,cutoff\r\n";
+pub const SUPPLY: &str = "unit,supplier,mw,cost,dfax\r\n";
+pub const SCHEDULES: &str = "unit,schedule,kind,hour,ecomin,price,noload,startup,minrun\r\n";
+
+pub const STARRED_ANSWER: &str = "unit,supplier,verdict,left,schedule,kind,cost\r\n\
+    11,1,F,0,2,C,1030000\r\n12,2,F,0,1,M,330000\r\n13,3,F,0,1,C,890000\r\n14,4,F,5000000,1,M,500000\r\n";
+
+/// What a buffer is filled with before it is lent. No answer file has this byte.
+pub const PATTERN: u8 = 0xA5;
+
+/// The files of a study.
+pub struct Files {
+    pub constraint: String,
+    pub supply: String,
+    pub schedules: String,
+}
+
+impl Files {
+    pub fn starred() -> Files {
+        let supply = "11,1,1000,3000,5000\r\n12,2,1000,3000,-5000\r\n13,3,1000,4000,5000\r\n14,4,2000,2000,200\r\n";
+        let schedules = "11,1,M,5,100,4000,50000,20000,1\r\n11,2,C,5,100,3000,50000,20000,1\r\n\
+            12,1,M,5,100,3300,0,0,1\r\n12,2,C,5,100,3000,0,0,1\r\n13,1,C,5,200,4000,0,1000,1\r\n\
+            14,1,M,5,100,5000,0,0,1\r\n14,2,C,5,100,2000,0,0,1\r\n";
+        Files {
+            constraint: format!("{CONSTRAINT}5,1000,300\r\n"),
+            supply: format!("{SUPPLY}{supply}"),
+            schedules: format!("{SCHEDULES}{schedules}"),
+        }
+    }
+
+    /// Constraint, supply and schedules as a call takes them.
+    pub fn bytes(&self) -> [&[u8]; 3] {
+        [&self.constraint, &self.supply, &self.schedules].map(|file| file.as_bytes())
+    }
+}
+
+pub fn refused(number: u64, file: u64, place: u64) -> Refusal {
+    Refusal {
+        number,
+        file,
+        place,
+    }
+}

@@ -1,0 +1,190 @@
+//! What a line asks, read from its words. Assumes nothing of the line, which may be of any length.
+
+use capping::Day;
+
+use crate::hex;
+
+/// The longest buffer that a case may lend.
+pub const LONGEST_BUFFER: usize = 4_096;
+
+/// The most amounts that a case may have.
+const MOST_AMOUNTS: usize = 1_000;
+
+/// The bytes of constraint, supply and schedules.
+pub type Files = [Vec<u8>; 3];
+
+#[derive(Debug, PartialEq, Eq)]
+pub enum Asked {
+    Study { day: Day, files: Files, lent: usize },
+    Release { day: Day, unit: u64 },
+    Test { need: u64, place: usize, amounts: Vec<u64> },
+    Check { files: Files },
+}
+
+impl Asked {
+    /// What a line asks, if it is in the form.
+    pub fn read(line: &[u8]) -> Option<Asked> {
+        let words: Vec<&[u8]> = line.split(|&byte| byte == b' ').collect();
+        match words[..] {
+            [b"study", day, c, s, h, lent] => Some(Asked::Study {
+                day: read_day(day)?,
+                files: read_files(c, s, h)?,
+                lent: read_lent(lent)?,
+            }),
+            [b"release", day, unit] => Some(Asked::Release { day: read_day(day)?, unit: read_number(unit)? }),
+            [b"test", need, place, amounts] => Some(Asked::Test {
+                need: read_number(need)?,
+                place: read_size(place)?,
+                amounts: read_amounts(amounts)?,
+            }),
+            [b"check", c, s, h] => Some(Asked::Check { files: read_files(c, s, h)? }),
+            _ => None,
+        }
+    }
+}
+
+fn read_day(word: &[u8]) -> Option<Day> {
+    std::str::from_utf8(word).ok()?.parse().ok()
+}
+
+fn read_files(constraint: &[u8], supply: &[u8], schedules: &[u8]) -> Option<Files> {
+    Some([hex::read(constraint)?, hex::read(supply)?, hex::read(schedules)?])
+}
+
+fn read_lent(word: &[u8]) -> Option<usize> {
+    read_size(word).filter(|&lent| lent <= LONGEST_BUFFER)
+}
+
+fn read_amounts(word: &[u8]) -> Option<Vec<u64>> {
+    if word == b"." {
+        return Some(Vec::new());
+    }
+    let amounts: Vec<u64> = word.split(|&byte| byte == b',').map(read_number).collect::<Option<_>>()?;
+    (amounts.len() <= MOST_AMOUNTS).then_some(amounts)
+}
+
+fn read_size(word: &[u8]) -> Option<usize> {
+    usize::try_from(read_number(word)?).ok()
+}
+
+/// A numeral below 2^64, with no sign and no leading zero.
+fn read_number(word: &[u8]) -> Option<u64> {
+    match word {
+        b"0" => Some(0),
+        [b'1'..=b'9', ..] => word.iter().try_fold(0, append),
+        _ => None,
+    }
+}
+
+/// A number with one digit more.
+fn append(number: u64, digit: &u8) -> Option<u64> {
+    let value = digit.is_ascii_digit().then(|| u64::from(digit - b'0'))?;
+    number.checked_mul(10)?.checked_add(value)
+}
+
+#[cfg(test)]
+mod tests {
+    use super::*;
+
+    fn read(line: &str) -> Option<Asked> {
+        Asked::read(line.as_bytes())
+    }
+
+    fn day(words: &str) -> Day {
+        words.parse().expect("words of a day")
+    }
+
+    #[test]
+    fn each_case() {
+        let files = || [vec![0x0a, 0xff], vec![], vec![0]];
+        assert_eq!(
+            read("study 5;1:M:2 0aff . 00 12"),
+            Some(Asked::Study { day: day("5;1:M:2"), files: files(), lent: 12 })
+        );
+        assert_eq!(read("release - 7"), Some(Asked::Release { day: Day::fresh(), unit: 7 }));
+        assert_eq!(read("test 1 2 3,4"), Some(Asked::Test { need: 1, place: 2, amounts: vec![3, 4] }));
+        assert_eq!(read("test 0 0 ."), Some(Asked::Test { need: 0, place: 0, amounts: vec![] }));
+        assert_eq!(read("check 0aff . 00"), Some(Asked::Check { files: files() }));
+    }
+
+    #[test]
+    fn numbers_up_to_64_bits() {
+        let unit = |word: &str| read(&format!("release - {word}"));
+        let largest = Asked::Release { day: Day::fresh(), unit: u64::MAX };
+        assert_eq!(unit("18446744073709551615"), Some(largest));
+        for word in ["18446744073709551616", "18446744073709551625", "99999999999999999999", "", "00", "07"] {
+            assert_eq!(unit(word), None, "{word}");
+        }
+        for word in ["+7", "-7", "7\r", "7x", "x", "\u{0667}"] {
+            assert_eq!(unit(word), None, "{word}");
+        }
+    }
+
+    #[test]
+    fn what_is_lent() {
+        assert!(read("study - . . . 0").is_some());
+        assert!(read("study - . . . 4096").is_some());
+        assert_eq!(read("study - . . . 4097"), None);
+    }
+
+    #[test]
+    fn as_many_amounts_as_a_case_may_have() {
+        let test = |count: usize| read(&format!("test 1 0 {}", vec!["7"; count].join(",")));
+        assert_eq!(test(1_000), Some(Asked::Test { need: 1, place: 0, amounts: vec![7; 1_000] }));
+        assert_eq!(test(1_001), None);
+    }
+
+    #[test]
+    fn files_of_any_length() {
+        let file = "61".repeat(1 << 20);
+        let files = || [vec![0x61; 1 << 20], vec![0x61; 1 << 20], vec![0x61; 1 << 20]];
+        assert_eq!(read(&format!("check {file} {file} {file}")), Some(Asked::Check { files: files() }));
+    }
+
+    #[test]
+    fn what_is_not_in_the_form() {
+        let lines = [
+            "",
+            " ",
+            "study",
+            " study - . . . 1",
+            "study  - . . . 1",
+            "study - . . .",
+            "study - . . . ",
+            "study - . . . 1 ",
+            "study - . . . 1 1",
+            "study - 0 . . 1",
+            "study - 0g . . 1",
+            "study - 0A . . 1",
+            "study - .. . . 1",
+            "study -  . . 1",
+            "release",
+            "release -",
+            "release - ",
+            "release 5 7",
+            "release 5;18446744073709551616:C:1 7",
+            "release 5;1:X:1 7",
+            "release 5;1:M 7",
+            "release 5;1:M:1, 7",
+            "release 5;1:M:1 7 7",
+            "test 1 0",
+            "test 1 0 ",
+            "test -1 0 1",
+            "test 1 18446744073709551616 1",
+            "test 1 0 1,,2",
+            "test 1 0 1,",
+            "test 1 0 1 2",
+            "test 1 0 .,1",
+            "check . .",
+            "check . . . .",
+            "check . . 1",
+            "Check . . .",
+            "check\t. . .",
+        ];
+        for line in lines {
+            assert_eq!(read(line), None, "{line}");
+        }
+        assert_eq!(Asked::read(b"check \xff . ."), None);
+        assert_eq!(Asked::read(b"release 5;\xff:M:1 1"), None);
+    }
+}

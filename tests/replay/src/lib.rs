@@ -1,0 +1,190 @@
+//! Cases as lines, put to the engine through `hosts/rust`: what it is asked, one a line, and what it
+//! answers, one a line.
+//!
+//! ```text
+//! study DAY C S H BUFLEN   ok ANSWERHEX DAY   or   no NUMBER FILE PLACE
+//! release DAY UNIT         ok DAY             or   no NUMBER FILE PLACE
+//! test NEED PLACE a,b,c    ok LEFT P   or   ok LEFT F   or   no 11 0 0
+//! check C S H              NUMBER
+//! ```
+//!
+//! DAY is a day in the words of `hosts/rust`. C, S and H are the files in lower-case hex, `.` for an
+//! empty file; `.` stands for no amounts too. Whatever isn't in this form is answered by `unreadable
+//! case`, and a case in which the engine changed what it had to leave alone by `spoilt`.
+//!
+//! The model reads the same lines. Nothing of its reader is used here, so that the two are held against
+//! each other.
+
+mod asked;
+mod hex;
+
+use capping::{Day, Refusal, Verdict};
+
+use asked::{Asked, Files, LONGEST_BUFFER};
+use hex::Hex;
+
+/// What the buffer is filled with before it is lent. No answer file has this byte.
+const PATTERN: u8 = 0xA5;
+
+/// The answer to a line that can't be read.
+const UNREADABLE: &str = "unreadable case";
+
+/// The answer where a byte behind the answer, or with a refusal any byte or a cell of the day, changed.
+const SPOILT: &str = "spoilt";
+
+/// The answer to a line, which is given without its end.
+pub fn answer(line: &[u8]) -> String {
+    match Asked::read(line) {
+        Some(Asked::Study { day, files, lent }) => study(day, &files, lent),
+        Some(Asked::Release { day, unit }) => release(day, unit),
+        Some(Asked::Test { need, place, amounts }) => test(&amounts, place, need),
+        Some(Asked::Check { files }) => check(&files),
+        None => UNREADABLE.to_string(),
+    }
+}
+
+/// Studies in the first bytes of a longer buffer, so that what is written past them shows.
+fn study(given: Day, files: &Files, lent: usize) -> String {
+    let [constraint, supply, schedules] = files;
+    let mut buffer = [PATTERN; LONGEST_BUFFER];
+    let mut day = given.clone();
+    let result = day.study_into(constraint, supply, schedules, &mut buffer[..lent]);
+    say_studied(result, &buffer, &given, &day)
+}
+
+fn say_studied(result: Result<usize, Refusal>, buffer: &[u8], given: &Day, after: &Day) -> String {
+    match result {
+        Ok(count) if is_kept(buffer, count) => format!("ok {} {after}", Hex(&buffer[..count])),
+        Err(refusal) if is_kept(buffer, 0) => say_refused(refusal, given, after),
+        _ => SPOILT.to_string(),
+    }
+}
+
+/// Whether the pattern stands from a place on.
+fn is_kept(buffer: &[u8], start: usize) -> bool {
+    buffer.get(start..).is_some_and(|rest| rest.iter().all(|&byte| byte == PATTERN))
+}
+
+fn say_refused(refusal: Refusal, given: &Day, after: &Day) -> String {
+    if after.cells() != given.cells() {
+        return SPOILT.to_string();
+    }
+    say_no(refusal)
+}
+
+fn say_no(refusal: Refusal) -> String {
+    format!("no {} {} {}", refusal.number, refusal.file, refusal.place)
+}
+
+fn release(given: Day, unit: u64) -> String {
+    let mut day = given.clone();
+    match day.release(unit) {
+        Ok(()) => format!("ok {day}"),
+        Err(refusal) => say_refused(refusal, &given, &day),
+    }
+}
+
+fn test(amounts: &[u64], place: usize, need: u64) -> String {
+    match capping::test(amounts, place, need) {
+        Ok((left, Verdict::P)) => format!("ok {left} P"),
+        Ok((left, Verdict::F)) => format!("ok {left} F"),
+        Err(refusal) => say_no(refusal),
+    }
+}
+
+fn check([constraint, supply, schedules]: &Files) -> String {
+    capping::check(constraint, supply, schedules).err().unwrap_or(0).to_string()
+}
+
+#[cfg(test)]
+mod tests {
+    use super::*;
+
+    fn ask(line: &str) -> String {
+        answer(line.as_bytes())
+    }
+
+    fn day(words: &str) -> Day {
+        words.parse().expect("words of a day")
+    }
+
+    /// A buffer of which the first bytes are written.
+    fn buffer(written: &[u8]) -> Vec<u8> {
+        let mut buffer = vec![PATTERN; LONGEST_BUFFER];
+        buffer[..written.len()].copy_from_slice(written);
+        buffer
+    }
+
+    /// Document 01's starred example, as the words of a line.
+    fn starred() -> String {
+        let constraint = "hour,relief,cutoff\r\n5,1000,300\r\n";
+        let supply = "unit,supplier,mw,cost,dfax\r\n\
+            11,1,1000,3000,5000\r\n12,2,1000,3000,-5000\r\n13,3,1000,4000,5000\r\n14,4,2000,2000,200\r\n";
+        let schedules = "unit,schedule,kind,hour,ecomin,price,noload,startup,minrun\r\n\
+            11,1,M,5,100,4000,50000,20000,1\r\n11,2,C,5,100,3000,50000,20000,1\r\n\
+            12,1,M,5,100,3300,0,0,1\r\n12,2,C,5,100,3000,0,0,1\r\n13,1,C,5,200,4000,0,1000,1\r\n\
+            14,1,M,5,100,5000,0,0,1\r\n14,2,C,5,100,2000,0,0,1\r\n";
+        [constraint, supply, schedules].map(|file| Hex(file.as_bytes()).to_string()).join(" ")
+    }
+
+    const STARRED_ANSWER: &str = "unit,supplier,verdict,left,schedule,kind,cost\r\n\
+        11,1,F,0,2,C,1030000\r\n12,2,F,0,1,M,330000\r\n13,3,F,0,1,C,890000\r\n14,4,F,5000000,1,M,500000\r\n";
+
+    #[test]
+    fn studies() {
+        let ok = format!("ok {} 5;11:C:2,12:M:1,13:C:1,14:M:1", Hex(STARRED_ANSWER.as_bytes()));
+        let length = STARRED_ANSWER.len();
+        assert_eq!(ask(&format!("study - {} 4096", starred())), ok);
+        assert_eq!(ask(&format!("study - {} {length}", starred())), ok);
+        assert_eq!(ask(&format!("study - {} {}", starred(), length - 1)), "no 10 0 0");
+        assert_eq!(ask(&format!("study 6; {} 4096", starred())), "no 20 0 0");
+        assert_eq!(ask(&format!("study 24; {} 4096", starred())), "no 24 0 0");
+        assert_eq!(ask("study - . . . 4096"), "no 2 1 0");
+    }
+
+    #[test]
+    fn releases() {
+        assert_eq!(ask("release 5;1:M:2,7:C:9 1"), "ok 5;7:C:9");
+        assert_eq!(ask("release 5;7:C:9 7"), "ok 5;");
+        assert_eq!(ask("release n;7:C:9 7"), "ok -");
+        assert_eq!(ask("release - 7"), "no 23 0 0");
+        assert_eq!(ask("release n; 7"), "no 23 0 0");
+        assert_eq!(ask("release 24; 7"), "no 24 0 0");
+    }
+
+    #[test]
+    fn tests_and_checks() {
+        assert_eq!(ask("test 2 3 4,3,2,1"), "ok 2 P");
+        assert_eq!(ask("test 3 3 4,3,2,1"), "ok 2 F");
+        assert_eq!(ask("test 3 0 ."), "no 11 0 0");
+        assert_eq!(ask("check . . ."), "2");
+        assert_eq!(ask(&format!("check {}", starred())), "0");
+        assert_eq!(ask("no case"), "unreadable case");
+    }
+
+    #[test]
+    fn a_byte_behind_the_answer_spoils_a_study() {
+        let kept = day("5;");
+        let say = |result, buffer: &[u8]| say_studied(result, buffer, &kept, &kept);
+        assert_eq!(say(Ok(2), &buffer(b"11")), "ok 3131 5;");
+        assert_eq!(say(Ok(2), &buffer(b"111")), "spoilt");
+        let mut last = buffer(b"11");
+        last[LONGEST_BUFFER - 1] ^= 1;
+        assert_eq!(say(Ok(2), &last), "spoilt");
+        assert_eq!(say(Ok(LONGEST_BUFFER + 1), &buffer(b"11")), "spoilt");
+    }
+
+    #[test]
+    fn a_refused_call_that_changed_anything_is_spoilt() {
+        let refusal = Refusal { number: 20, file: 0, place: 0 };
+        let (given, same) = (day("5;7:C:9"), day("5;7:C:9"));
+        assert_eq!(say_studied(Err(refusal), &buffer(b""), &given, &same), "no 20 0 0");
+        assert_eq!(say_studied(Err(refusal), &buffer(b"1"), &given, &same), "spoilt");
+        let mut cells = *given.cells();
+        *cells.last_mut().expect("a day has cells") = 1;
+        let changed = Day::from_cells(cells);
+        assert_eq!(changed, given);
+        assert_eq!(say_studied(Err(refusal), &buffer(b""), &given, &changed), "spoilt");
+        assert_eq!(say_refused(refusal, &given, &changed), "spoilt");
+    }
+}

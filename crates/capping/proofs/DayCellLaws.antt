@@ -1,23 +1,26 @@
 -- From a day to its cells, one place after the other, and back: the cells of a day mean that day. Assumes nothing.
 use Prim.Native.Nat.{ℕ, zero, suc, _+_, _*_, _≤_, _<_}
 use mathlib.Core.Path.{_≡_, refl, sym, _∙_, ap}
+use mathlib.Core.Bool.{Bool, true, false, cond}
 use mathlib.Core.List.{List, [], _∷_, _++_, append-nil, append-assoc}
 use mathlib.Core.Option.{Option, none, some}
 use native.Mathlib.Nat.{suc-mul, le-of-suc-le-suc, not-suc-le-zero}
 use native.Mathlib.Omega.{arith}
+use lib.Dec.{ltb}
 use lib.ListN.{length, getD, take, drop, set, length-set, length-append}
 use lib.Seq.{sets, sets-eq, length-sets, length-take-le, take-all, take-at, take-add, drop-drop, getD-drop}
+use borrow.Author.Tests.{ltb-true, ltb-false}
 use Rattle.tables.specs.Rows.{kindOf, letterOf}
 use Rattle.tables.specs.declared.files.Kind.{Kind}
 use Rattle.tables.specs.declared.files.Kind.the-variants.{M, C}
 use Rattle.judge.specs.Day.{RunningUnit, DayView, mostRunning, freshDay}
-use Rattle.running.specs.View.{missing, firstUnits, unitsOf}
+use Rattle.running.specs.View.{unitOf, missing, firstUnits, unitsOf}
 use Rattle.running.specs.declared.units.Units.{Units}
 use Rattle.running.proofs.ViewLaws.{unused, first-length, counted, first-at}
 use Rattle.engine.specs.View.{hourOf, viewOf}
 use Rattle.engine.specs.declared.day.Day.{Day}
-use Rattle.capping.specs.DayPromises.{cellsOfPlace, Holds, placed}
-use Rattle.capping.specs.Days.{firstPlace, placeWidth, dayLength, hourIn, unitIn, unitAt, unitsFrom, dayIn, hourCells, placeCells, dayCells}
+use Rattle.capping.specs.DayPromises.{cellsOfPlace, placed}
+use Rattle.capping.specs.Days.{firstPlace, placeWidth, dayLength, hourIn, unitIn, unitAt, unitsFrom, dayIn, hourCells, unitCells, placeCells, dayCells}
 use Rattle.capping.specs.declared.days.Place.{Place}
 
 -- three cells a place
@@ -26,10 +29,6 @@ unfolding placeCells
 places-length zero rs = refl
 places-length (suc n) [] = rw (suc-mul n placeWidth) (omega (arith, places-length n []))
 places-length (suc n) (r ∷ rs) = rw (suc-mul n placeWidth) (omega (arith, places-length n rs))
-
--- the cells of a unit
-abbrev unitCells : RunningUnit → List ℕ
-unitCells r = r .unit ∷ letterOf (r .kind) ∷ r .schedule ∷ []
 
 -- a unit's place, and a place behind the last unit
 pub place-held :
@@ -57,6 +56,20 @@ place-empty (suc n) (r ∷ rs) (suc i) h k =
     let further : suc i * placeWidth ≡ suc (suc (suc (i * placeWidth))) = rw (suc-mul i placeWidth) (omega arith) in
     rw further (place-empty n rs i (le-of-suc-le-suc h) (le-of-suc-le-suc k))
 
+-- what the i-th place of units holds, as it is read: the unit there, or zeros where none runs
+place-holds :
+    (us : Units) (i : ℕ) → i < mostRunning → i < length (us .running) → (t : Bool) → t ≡ ltb i (us .count) → {c : List ℕ} →
+    c ≡ cond t (unitCells (unitOf (getD (us .running) i unused))) (0 ∷ 0 ∷ 0 ∷ []) →
+    take placeWidth (drop (i * placeWidth) (placeCells mostRunning (unitsOf us))) ≡ c
+unfolding unitsOf
+place-holds us i h k true e is =
+    let runs : i < us .count = ltb-true i (us .count) (sym e) in
+    place-held mostRunning (firstUnits (us .count) (us .running)) i h (omega (arith, first-length (us .count) (us .running)))
+    ∙ rw (first-at missing (us .count) (us .running) i runs k) (sym is)
+place-holds us i h k false e is =
+    let rests : us .count ≤ i = ltb-false i (us .count) (sym e) in
+    place-empty mostRunning (firstUnits (us .count) (us .running)) i h (omega (arith, first-length (us .count) (us .running))) ∙ sym is
+
 -- of all places the first i are laid down
 pub record Laying (rs : List RunningUnit) (old cells : List ℕ) (i : ℕ) : Type 0 where
   pub upto : i ≤ mostRunning
@@ -67,7 +80,9 @@ pub laying-none : (rs : List RunningUnit) (cells : List ℕ) → length cells �
 laying-none rs cells e = record { upto = omega arith; long = e; laid = sym (append-nil (take firstPlace cells)) }
 
 module _ (rs : List RunningUnit) (old cells : List ℕ) (i : ℕ) (l : Laying rs old cells i) where
-  pub laying-next : (p : Place) → i < mostRunning → Holds rs i p → Laying rs old (placed p i cells) (i + 1)
+  laying-next :
+      (p : Place) → i < mostRunning → take placeWidth (drop (i * placeWidth) (placeCells mostRunning rs)) ≡ cellsOfPlace p →
+      Laying rs old (placed p i cells) (i + 1)
   unfolding placed
   laying-next p h holds =
       let at = firstPlace + i * placeWidth in
@@ -82,7 +97,7 @@ module _ (rs : List RunningUnit) (old cells : List ℕ) (i : ℕ) (l : Laying rs
         long = length-sets cells at (cellsOfPlace p) ∙ l .long;
         laid =
             rw (whole, sets-eq (cellsOfPlace p) cells at room, take-at (take at cells ++ cellsOfPlace p) (drop (at + 3) cells) (at + 3) front)
-            (rw (l .laid, part, take-add (i * placeWidth) placeWidth (placeCells mostRunning rs), holds .holds)
+            (rw (l .laid, part, take-add (i * placeWidth) placeWidth (placeCells mostRunning rs), holds)
             (append-assoc (take firstPlace old) (take (i * placeWidth) (placeCells mostRunning rs)) (cellsOfPlace p)));
       }
 
@@ -94,6 +109,15 @@ module _ (rs : List RunningUnit) (old cells : List ℕ) (i : ℕ) (l : Laying rs
       take-all (mostRunning * placeWidth) (placeCells mostRunning rs) (omega (arith, places-length mostRunning rs))
       in
       sym all ∙ (rw last at (l .laid)) ∙ ap (λ (s : List ℕ). take firstPlace old ++ s) every
+
+-- one place more of units that are laid down, whether one runs there or not
+pub laying-place :
+    (us : Units) (old cells : List ℕ) (i count : ℕ) → Laying (unitsOf us) old cells i → count ≡ us .count → length (us .running) ≡ mostRunning →
+    i < mostRunning → (p : Place) → cellsOfPlace p ≡ cond (ltb i count) (unitCells (unitOf (getD (us .running) i unused))) (0 ∷ 0 ∷ 0 ∷ []) →
+    Laying (unitsOf us) old (placed p i cells) (i + 1)
+laying-place us old cells i count l same long h p is =
+    let there : i < length (us .running) = omega (arith, long, h) in
+    laying-next (unitsOf us) old cells i l p h (place-holds us i h there (ltb i count) (rw same) is)
 
 -- the first three cells, once they are stored
 pub front-laid :
@@ -165,22 +189,6 @@ cells-mean d few =
       third (d .hour) (length (d .running)) (placeCells mostRunning (d .running)),
       running-back (d .hour) (d .running) few,
     )
-
--- what a place holds, by the unit in it
-module _ (us : Units) (i : ℕ) (h : i < mostRunning) where
-  pub holds-unit :
-      i < us .count → i < length (us .running) → (p : Place) → p .unit ≡ getD (us .running) i unused .unit →
-      p .kind ≡ letterOf (getD (us .running) i unused .kind) → p .schedule ≡ getD (us .running) i unused .schedule → Holds (unitsOf us) i p
-  unfolding unitsOf
-  holds-unit k l p u t s =
-      record {
-        holds =
-            place-held mostRunning (firstUnits (us .count) (us .running)) i h (omega (arith, first-length (us .count) (us .running)))
-            ∙ rw (first-at missing (us .count) (us .running) i k l, u, t, s);
-      }
-
-  pub holds-nothing : us .count ≤ i → Holds (unitsOf us) i (record { unit = 0; kind = 0; schedule = 0 })
-  holds-nothing k = record { holds = place-empty mostRunning (unitsOf us) i h (omega (arith, counted us)) }
 
 -- three stores in a row
 pub three-stored :

@@ -50,11 +50,15 @@ unfoldable pub hourCells : Option ℕ → List ℕ
 hourCells none = 0 ∷ 0 ∷ []
 hourCells (some h) = 1 ∷ h ∷ []
 
+-- the cells of a unit
+abbrev pub unitCells : RunningUnit → List ℕ
+unitCells r = r .unit ∷ letterOf (r .kind) ∷ r .schedule ∷ []
+
 -- the cells of n places, of which the first hold these units and the others zeros
 unfoldable pub placeCells : ℕ → List RunningUnit → List ℕ
 placeCells zero rs = []
 placeCells (suc n) [] = 0 ∷ 0 ∷ 0 ∷ placeCells n []
-placeCells (suc n) (r ∷ rs) = r .unit ∷ letterOf (r .kind) ∷ r .schedule ∷ placeCells n rs
+placeCells (suc n) (r ∷ rs) = unitCells r ++ placeCells n rs
 
 -- the cells that stand for a day; a fresh day's are all 0
 unfoldable pub dayCells : DayView → List ℕ

@@ -1,14 +1,15 @@
 // A day as host programs keep it: a fixed array of cells that is lent to each call. Any cells whatever
 // are a day; whether it is well-formed is asked of the day that they mean. Assumes nothing of them.
 ghost use mathlib.Core.Path.{_≡_};
-ghost use mathlib.Core.List.{_++_};
+ghost use mathlib.Core.Bool.{cond};
+ghost use mathlib.Core.List.{[], _∷_, _++_};
 ghost use Prim.Native.Nat.{_<_};
 ghost use lib.ListN.{length, getD, take};
 ghost use Rattle.judge.specs.Day.{mostRunning};
 ghost use Rattle.running.specs.View.{unitOf, unitsOf};
 ghost use Rattle.engine.specs.View.{hourOf, viewOf};
-ghost use Rattle.capping.specs.DayPromises.{Holds, placed};
-ghost use Rattle.capping.specs.Days.{firstPlace, dayLength, hourIn, unitIn, unitAt, unitsFrom, dayIn, hourCells, placeCells, dayCells};
+ghost use Rattle.capping.specs.DayPromises.{cellsOfPlace, placed};
+ghost use Rattle.capping.specs.Days.{firstPlace, dayLength, hourIn, unitIn, unitAt, unitsFrom, dayIn, hourCells, unitCells, placeCells, dayCells};
 use engine::Day;
 use engine::LastHour;
 use engine::Running;
@@ -149,19 +150,19 @@ fn lay_units(units: Units, cells: &mut [u64])
     requires { ⌜ length (now cells) ≡ dayLength ⌝ }
     ensures { λ _. ⌜ now (cells .exit) ≡ take firstPlace (now (cells .entry)) ++ placeCells mostRunning (unitsOf units) ⌝ }
 {
+    let count = units.count;
     let mut i = 0;
     while i < Day::UNITS {
-        lay_place(place_of(units, i), i, cells);
+        let r = units.running[i];
+        lay_place(place_of(r, i < count), i, cells);
         i += 1;
     }
 }
 
-fn place_of(units: Units, i: usize) -> Place
-    requires { ⌜ i < mostRunning ⌝ }
-    ensures { λ r. ⌜ Holds (unitsOf units) i r ⌝ }
+fn place_of(r: Running, runs: bool) -> Place
+    ensures { λ p. ⌜ cellsOfPlace p ≡ cond runs (unitCells (unitOf r)) (0 ∷ 0 ∷ 0 ∷ []) ⌝ }
 {
-    if i < units.count {
-        let r = units.running[i];
+    if runs {
         let kind = r.kind;
         Place {
             unit: r.unit,

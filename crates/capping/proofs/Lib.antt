@@ -2,3 +2,4 @@ pub mod CheckLaws
 pub mod DayCellLaws
 pub mod DayInLaws
 pub mod ExportLaws
+pub mod LayingLaws

@@ -22,7 +22,7 @@ use tables::letter_of;
 // The cells of a day.
 pub const CELLS: usize = FIRST_PLACE + Day::UNITS * PLACE_WIDTH;
 
-// 0 where the day has no hour.
+// Whether the day has an hour: it has one where anything but `NO_HOUR` stands here.
 const HAS_HOUR: usize = 0;
 
 const HOUR: usize = 1;
@@ -37,6 +37,10 @@ const PLACE_WIDTH: usize = 3;
 const KIND: usize = 1;
 
 const SCHEDULE: usize = 2;
+
+const NO_HOUR: u64 = 0;
+
+const SOME_HOUR: u64 = 1;
 
 // The cells of one place.
 struct Place {
@@ -57,7 +61,7 @@ pub(crate) fn day_in(cells: &[u64; CELLS]) -> Day
 fn hour_in(has: u64, hour: u64) -> LastHour
     ensures { λ r. ⌜ hourOf r ≡ hourIn has hour ⌝ }
 {
-    if has == 0 {
+    if has == NO_HOUR {
         LastHour::Fresh
     } else {
         LastHour::At(hour)
@@ -131,8 +135,8 @@ fn has_hour(hour: LastHour) -> u64
     ensures { λ r. ⌜ r ≡ getD (hourCells (hourOf hour)) 0 0 ⌝ }
 {
     match hour {
-        LastHour::Fresh => 0,
-        LastHour::At(_) => 1,
+        LastHour::Fresh => NO_HOUR,
+        LastHour::At(_) => SOME_HOUR,
     }
 }
 

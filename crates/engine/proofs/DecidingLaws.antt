@@ -2,7 +2,7 @@
 use Prim.Native.Nat.{ℕ, _*_, _≤_, _<_}
 use mathlib.Core.Path.{_≡_, refl, sym, _∙_, ap}
 use mathlib.Core.Bool.{Bool, true, false, not}
-use mathlib.Core.List.{List, [], _∷_, map, append-assoc}
+use mathlib.Core.List.{List, map, append-assoc}
 use mathlib.Core.Option.{Option, none, some, Option·map}
 use native.Mathlib.Omega.{arith}
 use lib.Dec.{leb}
@@ -24,8 +24,9 @@ use Rattle.decision.specs.declared.deciding.Decided.{Decided}
 use Rattle.decision.specs.declared.deciding.Decided.the-variants.{All as AllDecided, Costless}
 use Rattle.answer.proofs.StudyLetters.{decided-lettered}
 use Rattle.judge.specs.Day.{RunningUnit, mostRunning, dayFormed, stateRefused, unless, earlier, wouldRun}
-use Rattle.judge.specs.Decision.{decidedRow, decided, costless}
+use Rattle.judge.specs.Decision.{decided, costless}
 use Rattle.judge.specs.Study.{crowding, rowsRefusals, studyRows, decisionRefusals, decisionRefusal}
+use Rattle.judge.proofs.RowsToBytes.{rows-units}
 use Rattle.engine.specs.Deciding.{RowsReady, Laid, Decides, DecidesRows, DecidesMarket, DecidesStudy}
 use Rattle.engine.specs.View.{viewOf}
 use Rattle.engine.specs.declared.day.Day.{Day}
@@ -52,13 +53,6 @@ module _ (o : Option Refusal) (hour : ℕ) (rows : List AnswerRow) (running : Li
             rw (← same, ← alike) laid;
       }
 
-units-decided :
-    (c : ConstraintRow) (rows : List SupplyRow) (scheduled : List ScheduleRow) (running : List RunningUnit) (us : List ℕ) →
-    map (λ (a : AnswerRow). a .unit) (map (decidedRow c rows scheduled running) us) ≡ us
-unfolding decidedRow
-units-decided c rows scheduled running [] = refl
-units-decided c rows scheduled running (u ∷ us) = ap (λ (l : List ℕ). u ∷ l) (units-decided c rows scheduled running us)
-
 -- as deciding answered
 module _
     (c : ConstraintRow) (rows : List SupplyRow) (scheduled : List ScheduleRow) (running : List RunningUnit) (k : ℕ) (new : List ℕ) {r : Decided}
@@ -83,7 +77,7 @@ module _
         w ≤ mostRunning → RowsReady running k new
     unfolding decided
     rows-ready us of-supply room e w counted few =
-        let by-unit : map (λ (a : AnswerRow). a .unit) (answerRows k new) ≡ units rows = rw (decides .rows e) (units-decided c rows scheduled running (units rows)) in
+        let by-unit : map (λ (a : AnswerRow). a .unit) (answerRows k new) ≡ units rows = rw (decides .rows e) (rows-units c rows scheduled running (units rows)) in
         record {
           few = of-supply .few;
           there = room;

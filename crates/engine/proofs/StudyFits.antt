@@ -8,10 +8,10 @@ use Rattle.cells.specs.Views.{answerRows}
 use Rattle.cells.proofs.RowViews.{answer-length}
 use Rattle.judge.specs.Day.{RunningUnit, mostRunning}
 use Rattle.judge.specs.Study.{chosen}
+use Rattle.judge.proofs.DayAfter.{chosen-units}
 use Rattle.running.specs.Committing.{Fits}
 use Rattle.running.specs.View.{unitsOf}
 use Rattle.running.specs.declared.units.Units.{Units}
-use Rattle.running.proofs.CommitLaws.{chosen-units}
 use Rattle.running.proofs.ViewLaws.{counted}
 use Rattle.engine.specs.Deciding.{RowsReady}
 

@@ -7,33 +7,32 @@ use mathlib.Core.Option.{Option, none, some}
 use lib.Dec.{leb}
 use lib.ListN.{length}
 use borrow.Author.Tests.{leb-true}
-use Rattle.tables.specs.Rows.{SupplyRow, ScheduleRow}
-use Rattle.tables.specs.declared.constraint.ConstraintRow.{ConstraintRow}
 use Rattle.tables.specs.declared.files.Refusal.{Refusal}
 use Rattle.cells.specs.Views.{AnswerRow}
 use Rattle.filing.specs.Filing.{Files, constraintOf, supplyOf, schedulesOf}
 use Rattle.supply.specs.Supply.{units}
-use Rattle.judge.specs.Day.{RunningUnit, DayView, mostRunning, wouldRun, committed}
-use Rattle.judge.specs.Decision.{decidedRow, decided}
+use Rattle.judge.specs.Day.{DayView, mostRunning, wouldRun, committed}
+use Rattle.judge.specs.Decision.{decided}
 use Rattle.judge.specs.Study.{chosen, outcome, crowding, studyRows, decisionRefusal, studyRefusal, studied}
 use Rattle.judge.proofs.DayLaws.{unit, formed, order-rising, put-all-length}
 use Rattle.judge.proofs.DayRelease.{unless-none}
 use Rattle.judge.proofs.RefusalOrder.{accepted-deciding}
+use Rattle.judge.proofs.RowsToBytes.{shownUnit, rows-units}
 use Rattle.judge.proofs.Sound.{units-rise, day-formed, crowd-kept}
 
--- the units that rows have running are those that were decided
-chosen-units :
-    (c : ConstraintRow) (supply : List SupplyRow) (scheduled : List ScheduleRow) (running : List RunningUnit) (us : List ℕ) →
-    map unit (map chosen (map (decidedRow c supply scheduled running) us)) ≡ us
-unfolding chosen decidedRow
-chosen-units c supply scheduled running [] = refl
-chosen-units c supply scheduled running (u ∷ us) = ap (λ (l : List ℕ). u ∷ l) (chosen-units c supply scheduled running us)
+-- what rows have running are their own units
+pub chosen-units : (rows : List AnswerRow) → map unit (map chosen rows) ≡ map shownUnit rows
+unfolding chosen
+chosen-units [] = refl
+chosen-units (r ∷ rows) = ap (λ (us : List ℕ). r .unit ∷ us) (chosen-units rows)
 
 -- no more run than a day has places
 module _ (d : DayView) (f : Files) (ok : decisionRefusal d f ≡ none) where
   all-run : map unit (map chosen (studyRows d f)) ≡ units (supplyOf (f .supply))
   unfolding studyRows decided
-  all-run = chosen-units (constraintOf (f .constraint)) (supplyOf (f .supply)) (schedulesOf (f .schedules)) (d .running) (units (supplyOf (f .supply)))
+  all-run =
+      chosen-units (studyRows d f)
+      ∙ rows-units (constraintOf (f .constraint)) (supplyOf (f .supply)) (schedulesOf (f .schedules)) (d .running) (units (supplyOf (f .supply)))
 
   committed-few : (h : ℕ) → length (committed h (map chosen (studyRows d f)) d .running) ≤ mostRunning
   unfolding committed crowding

@@ -22,7 +22,7 @@ all-of : {A : Type 0} {P : A → Type 0} (xs : List A) → ((x : A) → Among x 
 all-of [] f = all-none
 all-of {A} (x ∷ xs) f = all-more (f x (here refl)) (all-of xs (λ (y : A) (m : Among y xs). f y (later m)))
 
-abbrev shownUnit : AnswerRow → ℕ
+abbrev pub shownUnit : AnswerRow → ℕ
 shownUnit r = r .unit
 
 -- rows that are each made from their unit are all made from their units
@@ -31,7 +31,7 @@ made-from-units f all-none = refl
 made-from-units f (all-more e a) = ap₂ _∷_ e (made-from-units f a)
 
 module _ (c : ConstraintRow) (supply : List SupplyRow) (scheduled : List ScheduleRow) (running : List RunningUnit) where
-  abbrev row : ℕ → AnswerRow
+  abbrev pub row : ℕ → AnswerRow
   row = decidedRow c supply scheduled running
 
   abbrev IsRight : AnswerRow → Type 0
@@ -41,7 +41,7 @@ module _ (c : ConstraintRow) (supply : List SupplyRow) (scheduled : List Schedul
   unfolding decidedRow
   row-unit u = refl
 
-  rows-units : (us : List ℕ) → map shownUnit (map row us) ≡ us
+  pub rows-units : (us : List ℕ) → map shownUnit (map row us) ≡ us
   rows-units [] = refl
   rows-units (u ∷ us) = ap₂ _∷_ (row-unit u) (rows-units us)
 

@@ -13,7 +13,7 @@ use Rattle.base.specs.Rising.{RisingFrom, next}
 use Rattle.base.proofs.Lists.{drop-end}
 use Rattle.base.proofs.Tests.{or-fst, or-snd}
 use Rattle.cells.proofs.RowViews.{answer-next, answer-length}
-use Rattle.cells.specs.Views.{AnswerRow, answerWidth, answerAt, answerRows}
+use Rattle.cells.specs.Views.{answerWidth, answerAt, answerRows}
 use Rattle.judge.specs.Day.{RunningUnit, mostRunning, putAll}
 use Rattle.judge.specs.Study.{chosen}
 use Rattle.judge.proofs.DayLaws.{unit, order-rising, put-all-length, merge-before, merge-at, merge-behind, merge-alone}
@@ -64,12 +64,6 @@ module _ (n : ℕ) (cells : List ℕ) (out : List Running) where
         let all : i ≡ n = omega (arith, c .upto) in
         first-map n out (omega (arith, c .most, c .places))
         ∙ sym (c .laid ∙ rw (drop-end i (answerRows n cells) (omega (arith, answer-length n cells)), all) (append-nil (map unitOf (take n out))))
-
--- the chosen units' numbers are the rows' own
-pub chosen-units : (rows : List AnswerRow) → unitNumbers (map chosen rows) ≡ map (λ (r : AnswerRow). r .unit) rows
-unfolding chosen
-chosen-units [] = refl
-chosen-units (r ∷ rows) = ap (λ (us : List ℕ). r .unit ∷ us) (chosen-units rows)
 
 -- units, one after the other
 unit-here :

@@ -1,5 +1,5 @@
 -- The first cells, then the places. Assumes nothing.
-use Rattle.capping.proofs.DayCellLaws.{laid-down}
+use Rattle.capping.proofs.LayingLaws.{laid-down}
 use borrow.Author.Needs.{needs}
 use Rattle.capping.proofs.days.lay_down.Statement.{statement}
 use Rattle.capping.proofs.days.lay_down.Tie as tie

@@ -1,7 +1,7 @@
 -- Three stores in a row. Assumes nothing.
 use native.Mathlib.Omega.{arith}
 use lib.ListN.{length-set}
-use Rattle.capping.proofs.DayCellLaws.{three-stored}
+use Rattle.capping.proofs.LayingLaws.{three-stored}
 use borrow.Author.Needs.{needs}
 use Rattle.capping.proofs.days.lay_place.Statement.{statement}
 use Rattle.capping.proofs.days.lay_place.Tie as tie

@@ -7,7 +7,7 @@ use borrow.Author.Needs.{needs}
 use Rattle.judge.specs.Day.{mostRunning}
 use Rattle.running.specs.View.{unitsOf}
 use Rattle.running.proofs.ViewLaws.{mapped}
-use Rattle.capping.proofs.DayCellLaws.{Laying, laying-none, laying-place, laying-over}
+use Rattle.capping.proofs.LayingLaws.{Laying, laying-none, laying-place, laying-over}
 use Rattle.capping.proofs.days.lay_units.Statement.{statement}
 use Rattle.capping.proofs.days.lay_units.Tie as tie
 

@@ -10,7 +10,7 @@ use Rattle.tables.specs.declared.files.Reading.the-variants.{Rows, Refused as N
 use Rattle.tables.specs.declared.files.Refusal.{Refusal}
 use Rattle.filing.specs.Alone.{SchedulesFiled}
 use Rattle.filing.specs.Filed.{MarketFiled}
-use Rattle.filing.specs.Filing.{files, schedulesRefusals, numberOf, checkNumber}
+use Rattle.filing.specs.Filing.{files, besideRefusals, numberOf, checkNumber}
 use Rattle.filing.specs.declared.market.Market.{Market}
 use Rattle.filing.specs.declared.market.MarketFiling.{MarketFiling}
 use Rattle.filing.specs.declared.market.MarketFiling.the-variants.{Filed, Refused}
@@ -33,6 +33,6 @@ module _ (c s supply us : List ℕ) {q : MarketFiling} (market : MarketFiled c s
 
   pub files-number :
       (m : Market) → q ≡ Filed m → (h : List ℕ) {a : ℕ} →
-      a ≡ numberOf (firstOf (schedulesRefusals (m .constraint .hour) (take (m .units) us) h)) → a ≡ checkNumber (files c s h)
+      a ≡ numberOf (firstOf (besideRefusals (m .constraint .hour) (take (m .units) us) h)) → a ≡ checkNumber (files c s h)
   unfolding checkNumber
   files-number m e h told = told ∙ rw (schedules-first c s supply us market m e h)

@@ -4,7 +4,7 @@ ghost use mathlib.Core.Path.{_≡_};
 ghost use lib.ListN.{take};
 ghost use Rattle.base.specs.Search.{firstOf};
 ghost use Rattle.filing.specs.Filed.{MarketFits};
-ghost use Rattle.filing.specs.Filing.{files, schedulesRefusals, numberOf, checkNumber};
+ghost use Rattle.filing.specs.Filing.{files, besideRefusals, numberOf, checkNumber};
 use filing::Market;
 use filing::MarketFiling;
 use filing::SCHEDULE_CELLS;
@@ -30,7 +30,7 @@ pub extern "C" fn capping_check(constraint: &[u8], supply: &[u8], schedules: &[u
 // The check of schedules beside a market, whose units are listed.
 fn check_schedules(market: Market, schedules: &[u8], units: &[u64]) -> u64
     requires { ⌜ MarketFits market (now units) ⌝ }
-    ensures { λ r. ⌜ r ≡ numberOf (firstOf (schedulesRefusals (market .constraint .hour) (take (market .units) (now (units .entry))) (now (schedules .entry)))) ⌝ }
+    ensures { λ r. ⌜ r ≡ numberOf (firstOf (besideRefusals (market .constraint .hour) (take (market .units) (now (units .entry))) (now (schedules .entry)))) ⌝ }
 {
     let mut cells = [0u64; SCHEDULE_CELLS];
     let mut links = [0u16; links::LENGTH];

@@ -16,7 +16,7 @@ use Rattle.tables.specs.declared.files.File.the-variants.{Schedules}
 use Rattle.tables.specs.declared.files.Refusal.{Refusal}
 use Rattle.cells.specs.Views.{AnswerRow, answerRows, answerWidth}
 use Rattle.supply.specs.Supply.{units}
-use Rattle.filing.specs.Filing.{Files, constraintOf, supplyOf, schedulesOf, marketRefusals, schedulesRefusals, filingRefusals, filingRefusal}
+use Rattle.filing.specs.Filing.{Files, constraintOf, supplyOf, schedulesOf, marketRefusals, besideRefusals, filingRefusals, filingRefusal}
 use Rattle.base.proofs.FirstLaws.{first-of-one, first-of-here, first-of-later, first-of-part, first-of-rest}
 use Rattle.decision.specs.Deciding.{DecidesRows as RowsDecide}
 use Rattle.decision.specs.Units.{UnitsOf}
@@ -142,15 +142,15 @@ module _ (day : Day) (c : ConstraintRow) (supply : List SupplyRow) (scheduled : 
 -- schedules, for a market that is filed
 module _ (day : Day) (c : ConstraintRow) (supply : List SupplyRow) (h : List ℕ) (new : List ℕ) (r : Deciding) where
   pub schedules-refused :
-      (e : Refusal) → firstOf (schedulesRefusals (c .hour) (units supply) h) ≡ some e → r ≡ Refused e → DecidesMarket day c supply h new r
+      (e : Refusal) → firstOf (besideRefusals (c .hour) (units supply) h) ≡ some e → r ≡ Refused e → DecidesMarket day c supply h new r
   schedules-refused e is g =
-      decides-refused _ _ _ _ new e r (first-of-part (schedulesRefusals (c .hour) (units supply) h) _ e is) g
+      decides-refused _ _ _ _ new e r (first-of-part (besideRefusals (c .hour) (units supply) h) _ e is) g
 
   pub schedules-decided :
-      firstOf (schedulesRefusals (c .hour) (units supply) h) ≡ none → (rows : List ScheduleRow) → rows ≡ schedulesOf h →
+      firstOf (besideRefusals (c .hour) (units supply) h) ≡ none → (rows : List ScheduleRow) → rows ≡ schedulesOf h →
       DecidesRows day c supply rows new r → DecidesMarket day c supply h new r
   schedules-decided ok rows is decides =
-      rw (first-of-rest (schedulesRefusals (c .hour) (units supply) h) (rowsRefusals (viewOf day) c supply (schedulesOf h)) ok)
+      rw (first-of-rest (besideRefusals (c .hour) (units supply) h) (rowsRefusals (viewOf day) c supply (schedulesOf h)) ok)
       (rw is at decides)
 
 -- all files

@@ -18,7 +18,7 @@ use Rattle.supply.proofs.UnitLaws.{units-rising}
 use Rattle.market.specs.Parties.{party, parties}
 use Rattle.filing.specs.Alone.{SchedulesFiled}
 use Rattle.filing.specs.Filed.{MarketFiled}
-use Rattle.filing.specs.Filing.{constraintOf, supplyOf, schedulesOf, aloneRefusals, marketRefusals, schedulesRefusals}
+use Rattle.filing.specs.Filing.{constraintOf, supplyOf, schedulesOf, aloneRefusals, marketRefusals, schedulesRefusals, besideRefusals}
 use Rattle.filing.specs.declared.market.Market.{Market}
 use Rattle.filing.specs.declared.market.MarketFiling.{MarketFiling}
 use Rattle.filing.specs.declared.market.MarketFiling.the-variants.{Filed}
@@ -80,16 +80,16 @@ module _ (c s supply us : List ℕ) {q : MarketFiling} (filed : MarketFiled c s 
 
 -- the cells of schedules that are filed
 module _
-    (hour : ℕ) (us h cells links : List ℕ) {p : Reading} (filed : SchedulesFiled (schedulesRefusals hour us h) h cells links p)
+    (hour : ℕ) (us h cells links : List ℕ) {p : Reading} (filed : SchedulesFiled (besideRefusals hour us h) h cells links p)
   where
-    pub schedules-refuse : (x : Refusal) → p ≡ NotRead x → firstOf (schedulesRefusals hour us h) ≡ some x
+    pub schedules-refuse : (x : Refusal) → p ≡ NotRead x → firstOf (besideRefusals hour us h) ≡ some x
     schedules-refuse x f = refused-answered _ (length (schedulesOf h)) (sym (filed .answers) ∙ f)
 
     module _ (n : ℕ) (f : p ≡ RowsRead n) where
-      rows-told : (firstOf (schedulesRefusals hour us h) ≡ none) × (n ≡ length (schedulesOf h))
+      rows-told : (firstOf (besideRefusals hour us h) ≡ none) × (n ≡ length (schedulesOf h))
       rows-told = rows-answered _ (length (schedulesOf h)) (sym (filed .answers) ∙ f)
 
-      pub schedules-none : firstOf (schedulesRefusals hour us h) ≡ none
+      pub schedules-none : firstOf (besideRefusals hour us h) ≡ none
       schedules-none = rows-told .0
 
       pub schedules-rows : scheduleRows n cells ≡ schedulesOf h
@@ -99,7 +99,7 @@ module _
       schedules-linked = rw (rows-told .1) (filed .kept schedules-none .linked)
 
       pub schedules-cells : 9216 ≤ length cells → ScheduleCells n cells
-      unfolding schedulesRefusals aloneRefusals
+      unfolding besideRefusals schedulesRefusals aloneRefusals
       schedules-cells room =
           let read = first-of-none (refusal Schedules h) _ schedules-none .0 in
           let few : n ≤ 1024 = rw (rows-told .1, schedules-count h) (accepted Schedules h read .most) in

@@ -13,7 +13,7 @@ use Rattle.tables.specs.declared.files.Refusal.{Refusal}
 use Rattle.cells.specs.Views.{AnswerRow, answerRows, answerWidth}
 use Rattle.supply.specs.Supply.{mostUnits, units}
 use Rattle.answer.specs.Rows.{Lettered}
-use Rattle.filing.specs.Filing.{Files, constraintOf, schedulesOf, schedulesRefusals}
+use Rattle.filing.specs.Filing.{Files, constraintOf, schedulesOf, besideRefusals}
 use Rattle.judge.specs.Day.{RunningUnit, mostRunning, wouldRun}
 use Rattle.judge.specs.Decision.{decided}
 use Rattle.judge.specs.Study.{rowsRefusals, studyRows, decisionRefusal}
@@ -53,7 +53,7 @@ DecidesRows day c supply scheduled new r =
 abbrev pub DecidesMarket : Day → ConstraintRow → List SupplyRow → List ℕ → List ℕ → Deciding → Type 0
 DecidesMarket day c supply h new r =
     Decides
-    (firstOf (schedulesRefusals (c .hour) (units supply) h ++ rowsRefusals (viewOf day) c supply (schedulesOf h)))
+    (firstOf (besideRefusals (c .hour) (units supply) h ++ rowsRefusals (viewOf day) c supply (schedulesOf h)))
     (c .hour)
     (decided c supply (schedulesOf h) (viewOf day .running))
     (viewOf day .running)

@@ -13,7 +13,7 @@ use Rattle.tables.specs.declared.files.File.the-variants.{Constraint, Supply}
 use Rattle.tables.specs.declared.files.Refusal.{Refusal}
 use Rattle.supply.specs.Supply.{mostUnits, units, crowded}
 use Rattle.filing.specs.Filed.{marketOf, marketUnless, MarketFiled, MarketFits}
-use Rattle.filing.specs.Filing.{files, supplyOf, aloneRefusals, marketRefusals, schedulesRefusals, filingRefusals, filingRefusal}
+use Rattle.filing.specs.Filing.{files, supplyOf, aloneRefusals, marketRefusals, besideRefusals, filingRefusals, filingRefusal}
 use Rattle.filing.specs.declared.market.Market.{Market}
 use Rattle.filing.specs.declared.market.MarketFiling.{MarketFiling}
 use Rattle.filing.specs.declared.market.MarketFiling.the-variants.{Filed, Refused}
@@ -61,6 +61,6 @@ module _ (c s supply us : List ℕ) {q : MarketFiling} (market : MarketFiled c s
 
     -- the first refusal is that of schedules
     pub schedules-first :
-        (h : List ℕ) → filingRefusal (files c s h) ≡ firstOf (schedulesRefusals (m .constraint .hour) (take (m .units) us) h)
+        (h : List ℕ) → filingRefusal (files c s h) ≡ firstOf (besideRefusals (m .constraint .hour) (take (m .units) us) h)
     unfolding filingRefusal filingRefusals
     schedules-first h = first-of-rest (marketRefusals c s) _ (told .0) ∙ rw (listed, told .1)

@@ -20,7 +20,7 @@ use Rattle.tables.specs.declared.files.File.{File}
 use Rattle.tables.specs.declared.files.File.the-variants.{Constraint, Supply, Schedules}
 use Rattle.tables.proofs.Accepted.{accepted}
 use Rattle.tables.proofs.Permitted as Permitted
-use Rattle.filing.specs.Filing.{Files, rowCells, constraintOf, supplyOf, schedulesOf, aloneRefusals, marketRefusals, besideRefusals, schedulesRefusals, filingRefusals, filingRefusal}
+use Rattle.filing.specs.Filing.{Files, rowCells, constraintOf, supplyOf, schedulesOf, aloneRefusals, marketRefusals, schedulesRefusals, unitsRefusals, besideRefusals, filingRefusals, filingRefusal}
 use Rattle.filing.specs.Kept.{Kept}
 use Rattle.numbers.specs.Numbers.{numbersFrom, numbersOf}
 use Rattle.schedules.specs.Schedules.{schedulesAtOdds, strange, unscheduled}
@@ -102,7 +102,7 @@ pub suppliers-few : (rs : List SupplyRow) → crowded rs ≡ none → length (su
 suppliers-few rs e = few rs e .few-suppliers
 
 pub kept : (f : Files) → filingRefusal f ≡ none → Kept f
-unfolding aloneRefusals marketRefusals besideRefusals schedulesRefusals filingRefusals filingRefusal
+unfolding aloneRefusals marketRefusals schedulesRefusals unitsRefusals besideRefusals filingRefusals filingRefusal
 kept f e =
     let c = f .constraint in
     let s = f .supply in

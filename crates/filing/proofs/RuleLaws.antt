@@ -22,8 +22,8 @@ use Rattle.schedules.specs.declared.rows.Lowest.{Lowest}
 use Rattle.schedules.proofs.PlaceLaws.{strange-none}
 use Rattle.runs.specs.Runs.{lacking}
 use Rattle.filing.specs.Alone.{rowsUnless}
-use Rattle.filing.specs.Filing.{besideRefusals}
-use Rattle.filing.specs.Rules.{faultIn, recordAt}
+use Rattle.filing.specs.Filing.{unitsRefusals}
+use Rattle.filing.specs.Rules.{faultIn, recordAt, heldRefusals}
 use Rattle.base.proofs.FirstLaws.{first-of-one, first-of-here, first-of-later}
 
 pub some-none : {A : Type 0} {x : Refusal} → some x ≡ none → A
@@ -72,27 +72,26 @@ module _
     (hour : ℕ) (us : List ℕ) (rs : List ScheduleRow) (n : ℕ) {p : Reading}
     (first : p ≡ rowsUnless (Option·map (refused 7 Schedules) (strange us rs)) n)
   where
-    pub seventh-broken : {x : Refusal} → p ≡ NotRead x → NotRead x ≡ rowsUnless (firstOf (besideRefusals hour us rs)) n
-    unfolding besideRefusals
+    pub seventh-broken : {x : Refusal} → p ≡ NotRead x → NotRead x ≡ rowsUnless (firstOf (heldRefusals hour us rs)) n
+    unfolding heldRefusals
     seventh-broken e = rw (first-of-here _ _ _ (refused-answered _ n (sym first ∙ e)))
 
     module _
         {m : ℕ} (e : p ≡ RowsRead m) {q : Reading}
         (second : q ≡ rowsUnless (Option·map (refused 8 Schedules) (unscheduled us rs)) n)
       where
-        eighth-first :
-            firstOf (besideRefusals hour us rs)
-            ≡ firstOf
-            (Option·map (refused 8 Schedules) (unscheduled us rs) ∷ Option·map (refused 9 Schedules) (lacking hour us rs) ∷ [])
-        unfolding besideRefusals
+        eighth-first : firstOf (heldRefusals hour us rs) ≡ firstOf (unitsRefusals hour us rs)
+        unfolding heldRefusals
         eighth-first = first-of-later _ _ (rows-answered _ n (sym first ∙ e) .0)
 
-        pub eighth-broken : {x : Refusal} → q ≡ NotRead x → NotRead x ≡ rowsUnless (firstOf (besideRefusals hour us rs)) n
+        pub eighth-broken : {x : Refusal} → q ≡ NotRead x → NotRead x ≡ rowsUnless (firstOf (heldRefusals hour us rs)) n
+        unfolding unitsRefusals
         eighth-broken f = rw (eighth-first ∙ first-of-here _ _ _ (refused-answered _ n (sym second ∙ f)))
 
         pub ninth-held :
             {k : ℕ} → q ≡ RowsRead k → {r : Reading} → r ≡ rowsUnless (Option·map (refused 9 Schedules) (lacking hour us rs)) n →
-            r ≡ rowsUnless (firstOf (besideRefusals hour us rs)) n
+            r ≡ rowsUnless (firstOf (heldRefusals hour us rs)) n
+        unfolding unitsRefusals
         ninth-held f third =
             third
             ∙ rw (eighth-first ∙ first-of-later _ _ (rows-answered _ n (sym second ∙ f) .0) ∙ first-of-one _)

@@ -2,7 +2,7 @@
 -- Assumes nothing.
 use Prim.Native.Nat.{ℕ, _*_, _≤_}
 use mathlib.Core.Path.{_≡_, refl, sym, _∙_}
-use mathlib.Core.List.{List, []}
+use mathlib.Core.List.{List, [], _++_, append-assoc}
 use mathlib.Core.Option.{Option, none, some}
 use native.Mathlib.Omega.{arith}
 use lib.ListN.{length}
@@ -25,7 +25,8 @@ use Rattle.schedules.specs.Schedules.{schedulesAtOdds}
 use Rattle.runs.specs.Ranges.{Checked}
 use Rattle.filing.specs.Alone.{constraintUnless, constraintFiled, supplyUnless, SupplyFiled, rowsUnless, SchedulesFiled}
 use Rattle.filing.specs.Filed.{MarketFiled}
-use Rattle.filing.specs.Filing.{constraintOf, supplyOf, schedulesOf, aloneRefusals, marketRefusals, besideRefusals, schedulesRefusals}
+use Rattle.filing.specs.Filing.{constraintOf, supplyOf, schedulesOf, aloneRefusals, marketRefusals, schedulesRefusals, besideRefusals}
+use Rattle.filing.specs.Rules.{heldRefusals}
 use Rattle.filing.specs.declared.constraint_file.ConstraintFiling.{ConstraintFiling}
 use Rattle.filing.specs.declared.constraint_file.ConstraintFiling.the-variants.{Row, Refused as ConstraintRefused}
 use Rattle.filing.specs.declared.market.MarketFiling.the-variants.{Filed, Refused}
@@ -93,12 +94,15 @@ module _ (c s cells us : List ℕ) {q : ConstraintFiling} (filed : q ≡ constra
 
 -- schedules beside a market
 module _ (h cells links : List ℕ) {q : Reading} (read : SchedulesFiled (aloneRefusals Schedules h) h cells links q) where
+  beside-parts : (hour : ℕ) (us : List ℕ) → besideRefusals hour us h ≡ aloneRefusals Schedules h ++ heldRefusals hour us (schedulesOf h)
+  unfolding besideRefusals schedulesRefusals heldRefusals
+  beside-parts hour us = append-assoc (aloneRefusals Schedules h) _ _
+
   pub beside-unread :
-      (hour : ℕ) (us : List ℕ) {x : Refusal} → q ≡ NotRead x → SchedulesFiled (schedulesRefusals hour us h) h cells links (NotRead x)
-  unfolding schedulesRefusals
+      (hour : ℕ) (us : List ℕ) {x : Refusal} → q ≡ NotRead x → SchedulesFiled (besideRefusals hour us h) h cells links (NotRead x)
   beside-unread hour us {x} e =
       let alone = refused-answered (firstOf (aloneRefusals Schedules h)) _ (sym (read .answers) ∙ e) in
-      let first : firstOf (schedulesRefusals hour us h) ≡ some x = first-of-part (aloneRefusals Schedules h) _ x alone in
+      let first : firstOf (besideRefusals hour us h) ≡ some x = rw (beside-parts hour us) (first-of-part (aloneRefusals Schedules h) _ x alone) in
       record { answers = rw first; kept = λ z. some-none (sym first ∙ z) }
 
   module _ (n : ℕ) (e : q ≡ RowsRead n) where
@@ -129,12 +133,11 @@ module _ (h cells links : List ℕ) {q : Reading} (read : SchedulesFiled (aloneR
         }
 
     pub beside-filed :
-        (hour : ℕ) (us : List ℕ) (a : Reading) → a ≡ rowsUnless (firstOf (besideRefusals hour us (scheduleRows n cells))) n →
-        SchedulesFiled (schedulesRefusals hour us h) h cells links a
-    unfolding schedulesRefusals
+        (hour : ℕ) (us : List ℕ) (a : Reading) → a ≡ rowsUnless (firstOf (heldRefusals hour us (scheduleRows n cells))) n →
+        SchedulesFiled (besideRefusals hour us h) h cells links a
     beside-filed hour us a held =
-        let first = first-of-rest (aloneRefusals Schedules h) (besideRefusals hour us (schedulesOf h)) (passed .0) in
+        let first = first-of-rest (aloneRefusals Schedules h) (heldRefusals hour us (schedulesOf h)) (passed .0) in
         record {
-          answers = held ∙ rw (first, rows-are, passed .1);
+          answers = held ∙ rw (beside-parts hour us, first, rows-are, passed .1);
           kept = λ _. read .kept (passed .0);
         }

@@ -55,23 +55,25 @@ aloneRefusals Schedules h =
 unfoldable pub marketRefusals : List ℕ → List ℕ → List (Option Refusal)
 marketRefusals c s = aloneRefusals Constraint c ++ aloneRefusals Supply s
 
--- the rows of schedules beside a study hour and the units of supply
-unfoldable pub besideRefusals : ℕ → List ℕ → List ScheduleRow → List (Option Refusal)
-besideRefusals hour us rs =
-    Option·map (refused 7 Schedules) (strange us rs)
-    ∷ Option·map (refused 8 Schedules) (unscheduled us rs)
-    ∷ Option·map (refused 9 Schedules) (lacking hour us rs)
-    ∷ []
+-- schedules beside the units of supply
+unfoldable pub schedulesRefusals : List ℕ → List ℕ → List (Option Refusal)
+schedulesRefusals us h =
+    aloneRefusals Schedules h ++ (Option·map (refused 7 Schedules) (strange us (schedulesOf h)) ∷ [])
 
--- schedules as far as these
-unfoldable pub schedulesRefusals : ℕ → List ℕ → List ℕ → List (Option Refusal)
-schedulesRefusals hour us h = aloneRefusals Schedules h ++ besideRefusals hour us (schedulesOf h)
+-- "then 8, 9": the units of supply that lack schedule rows, for a study hour
+unfoldable pub unitsRefusals : ℕ → List ℕ → List ScheduleRow → List (Option Refusal)
+unitsRefusals hour us rs =
+    Option·map (refused 8 Schedules) (unscheduled us rs) ∷ Option·map (refused 9 Schedules) (lacking hour us rs) ∷ []
+
+-- what comes behind a market with this hour and these units
+unfoldable pub besideRefusals : ℕ → List ℕ → List ℕ → List (Option Refusal)
+besideRefusals hour us h = schedulesRefusals us h ++ unitsRefusals hour us (schedulesOf h)
 
 -- all three files
 unfoldable pub filingRefusals : Files → List (Option Refusal)
 filingRefusals f =
     marketRefusals (f .constraint) (f .supply)
-    ++ schedulesRefusals (constraintOf (f .constraint) .hour) (units (supplyOf (f .supply))) (f .schedules)
+    ++ besideRefusals (constraintOf (f .constraint) .hour) (units (supplyOf (f .supply))) (f .schedules)
 
 unfoldable pub filingRefusal : Files → Option Refusal
 filingRefusal f = firstOf (filingRefusals f)
@@ -86,5 +88,5 @@ checkNumber f = numberOf (filingRefusal f)
 
 -- opens all of the above, for examples that compute
 unfoldable pub filing·all : Unit {0}
-unfolding rowCells constraintOf supplyOf schedulesOf aloneRefusals marketRefusals besideRefusals schedulesRefusals filingRefusals filingRefusal checkNumber
+unfolding rowCells constraintOf supplyOf schedulesOf aloneRefusals marketRefusals schedulesRefusals unitsRefusals besideRefusals filingRefusals filingRefusal checkNumber
 filing·all = tt

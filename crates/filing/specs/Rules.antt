@@ -1,14 +1,18 @@
 -- A rule over schedule rows as the code asks it: what is at fault, and the number of its refusal. Assumes nothing.
 use Prim.Native.Nat.{ℕ}
 use mathlib.Core.Bool.{cond}
-use mathlib.Core.List.{List}
-use mathlib.Core.Option.{Option, none, some}
+use mathlib.Core.List.{List, _∷_}
+use mathlib.Core.Option.{Option, none, some, Option·map}
 use lib.Dec.{eqb}
+use Rattle.tables.specs.Reading.{refused}
 use Rattle.tables.specs.Rows.{ScheduleRow}
+use Rattle.tables.specs.declared.files.File.the-variants.{Schedules}
+use Rattle.tables.specs.declared.files.Refusal.{Refusal}
 use Rattle.schedules.specs.Schedules.{strange, unscheduled}
 use Rattle.schedules.specs.declared.rows.Lowest.{Lowest}
 use Rattle.schedules.specs.declared.rows.Lowest.the-variants.{Number, Nothing}
 use Rattle.runs.specs.Runs.{lacking}
+use Rattle.filing.specs.Filing.{unitsRefusals}
 use Rattle.filing.specs.declared.rules.Rule.{Rule}
 use Rattle.filing.specs.declared.rules.Rule.the-variants.{Strange, Unscheduled, Lacking}
 
@@ -31,3 +35,7 @@ abbrev pub atFault : Rule → ℕ → List ℕ → List ScheduleRow → Option �
 atFault Strange hour us rs = strange us rs
 atFault Unscheduled hour us rs = unscheduled us rs
 atFault Lacking hour us rs = lacking hour us rs
+
+-- all of them, of rows that were read
+unfoldable pub heldRefusals : ℕ → List ℕ → List ScheduleRow → List (Option Refusal)
+heldRefusals hour us rs = Option·map (refused 7 Schedules) (strange us rs) ∷ unitsRefusals hour us rs

@@ -12,8 +12,7 @@ ghost use Rattle.cells.specs.Views.{scheduleWidth};
 ghost use Rattle.links.specs.Links.{RowsLinked};
 ghost use Rattle.runs.specs.Ranges.{Checked};
 ghost use Rattle.filing.specs.Alone.{rowsUnless};
-ghost use Rattle.filing.specs.Rules.{ruleNumber, atFault};
-ghost use Rattle.filing.specs.Filing.{besideRefusals};
+ghost use Rattle.filing.specs.Rules.{ruleNumber, atFault, heldRefusals};
 use crate::answers::answer;
 use crate::answers::at_record;
 use crate::market::Market;
@@ -37,7 +36,7 @@ pub fn hold(market: Market, cells: &[u64], n: usize, links: &[u16], units: &[u64
     requires { ⌜ RowsLinked (now cells) n (now links) ⌝ }
     requires { ⌜ market .units ≤ length (now units) ⌝ }
     requires { ⌜ Checked (market .constraint .hour) (scheduleRows n (now cells)) ⌝ }
-    ensures { λ r. ⌜ r ≡ rowsUnless (firstOf (besideRefusals (market .constraint .hour) (take (market .units) (now (units .entry))) (scheduleRows n (now (cells .entry))))) n ⌝ }
+    ensures { λ r. ⌜ r ≡ rowsUnless (firstOf (heldRefusals (market .constraint .hour) (take (market .units) (now (units .entry))) (scheduleRows n (now (cells .entry))))) n ⌝ }
 {
     let first = hold_to(Rule::Strange, market, cells, n, links, units);
     match first {

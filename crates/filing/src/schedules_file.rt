@@ -7,7 +7,7 @@ ghost use Rattle.tables.specs.declared.files.File.the-variants.{Schedules};
 ghost use Rattle.links.specs.Links.{linksLength, Unlinked};
 ghost use Rattle.filing.specs.Alone.{SchedulesFiled};
 ghost use Rattle.filing.specs.Filed.{MarketFits};
-ghost use Rattle.filing.specs.Filing.{aloneRefusals, schedulesRefusals};
+ghost use Rattle.filing.specs.Filing.{aloneRefusals, besideRefusals};
 use crate::answers::answer;
 use crate::answers::at_record;
 use crate::market::Market;
@@ -48,7 +48,7 @@ pub fn file_schedules(
     requires { ⌜ room Schedules ≤ length (now cells) ⌝ }
     requires { ⌜ linksLength ≤ length (now links) ⌝ }
     requires { ⌜ Unlinked (now links) ⌝ }
-    ensures { λ r. ⌜ SchedulesFiled (schedulesRefusals (market .constraint .hour) (take (market .units) (now (units .entry))) (now (schedules .entry))) (now (schedules .entry)) (now (cells .exit)) (now (links .exit)) r ⌝ }
+    ensures { λ r. ⌜ SchedulesFiled (besideRefusals (market .constraint .hour) (take (market .units) (now (units .entry))) (now (schedules .entry))) (now (schedules .entry)) (now (cells .exit)) (now (links .exit)) r ⌝ }
 {
     let reading = read_schedules(schedules, cells, links);
     match reading {

@@ -6,7 +6,8 @@
  * nothing is kept or freed. What is written may overlap nothing else that is lent to the same call. There is no state but the
  * days that callers keep, so threads may call at the same time, on a day each. A call takes up to 128 KiB of stack.
  *
- * A file of length 0 is one record with one blank field. docs/REFUSALS.md says what each number means and how to mend it. */
+ * A parents file of length 0 is none; each other file of length 0 is one record with one blank field. docs/REFUSALS.md says
+ * what each number means and how to mend it. */
 #ifndef CAPPING_H
 #define CAPPING_H
 
@@ -20,6 +21,9 @@ extern "C" {
 /* A buffer of so many bytes holds the longest answer file. */
 #define CAPPING_LONGEST_ANSWER 2799
 
+/* What to pass for parents and its length where there is no such file: no bytes, behind a pointer that isn't NULL. */
+#define CAPPING_NO_PARENTS (const uint8_t *)"", 0
+
 /* What capping_test answers. */
 #define CAPPING_P 0
 #define CAPPING_F 1
@@ -30,21 +34,23 @@ extern "C" {
 #define CAPPING_DAY_CELLS 195
 #define CAPPING_DAY_UNITS 64
 
-/* Checks the three files of a study, each as its bytes.
+/* Checks three files of a study, each as its bytes; parents play no part.
  *
- * Answers 0 if no rule is broken, else the number of the first refusal, 1 to 9, that a study of them gives. */
+ * Answers 0 if no rule is broken, else the number of the first refusal, 1 to 9, that a study of them without parents gives. */
 uint64_t capping_check(const uint8_t *constraint, size_t constraint_len,
                        const uint8_t *supply, size_t supply_len,
                        const uint8_t *schedules, size_t schedules_len);
 
-/* Studies the three files on a fresh day, and writes the answer file from the start of the buffer.
+/* Studies the files on a fresh day, and writes the answer file from the start of the buffer. Parents name affiliated suppliers,
+ * which are tested as one; CAPPING_NO_PARENTS stands for none.
  *
  * Answers how many bytes it wrote; the rest of the buffer stays. Where the study is refused it answers 0, and no byte of
- * the buffer has changed. The report is then number, file (1 constraint, 2 supply, 3 schedules, 0 none) and place; it is
- * 0, 0, 0 where the study is accepted. A buffer shorter than the answer is refused with 10. */
+ * the buffer has changed. The report is then number, file (1 constraint, 2 supply, 3 schedules, 5 parents, 0 none) and place;
+ * it is 0, 0, 0 where the study is accepted. A buffer shorter than the answer is refused with 10. */
 uint64_t capping_study(const uint8_t *constraint, size_t constraint_len,
                        const uint8_t *supply, size_t supply_len,
                        const uint8_t *schedules, size_t schedules_len,
+                       const uint8_t *parents, size_t parents_len,
                        uint8_t *answer, size_t answer_len,
                        uint64_t report[3]);
 
@@ -61,12 +67,13 @@ uint64_t capping_test(const uint64_t *amounts, size_t amounts_len, uint64_t plac
 /* Makes the day fresh: no hour, and no unit runs. */
 void capping_day_fresh(uint64_t day[CAPPING_DAY_CELLS]);
 
-/* Studies the three files on the day, as capping_study does on a fresh one: the same answers, buffer and report. Accepted, the
+/* Studies the files on the day, as capping_study does on a fresh one: the same answers, buffer and report. Accepted, the
  * day's hour is the study's, and each of its units runs on the schedule chosen; the others run as they did. */
 uint64_t capping_day_study(uint64_t day[CAPPING_DAY_CELLS],
                            const uint8_t *constraint, size_t constraint_len,
                            const uint8_t *supply, size_t supply_len,
                            const uint8_t *schedules, size_t schedules_len,
+                           const uint8_t *parents, size_t parents_len,
                            uint8_t *answer, size_t answer_len,
                            uint64_t report[3]);
 

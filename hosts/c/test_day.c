@@ -1,11 +1,14 @@
 /* Cases of the calls on a day, whose cells are lent as a caller keeps them. Accepted, every cell is that of the day afterwards,
- * with zeros behind the count; refused, every cell is as it was. What each must answer was worked from document 01. */
+ * with zeros behind the count; refused, every cell is as it was. What each must answer was worked from documents 01 and 02. */
 #include "capping_words.h"
 #include "testing.h"
 
-/* The starred example where its units run already: nothing is added for their start. */
+/* The starred example where its units run already, without affiliated suppliers and with them: nothing is added for their start. */
 #define STARRED_AGAIN \
     ANSWER_HEADER "11,1,F,0,2,C,830000\r\n12,2,F,0,1,M,330000\r\n13,3,F,0,1,C,880000\r\n14,4,F,5000000,1,M,500000\r\n"
+
+#define AFFILIATED_AGAIN \
+    ANSWER_HEADER "11,1,F,0,2,C,830000\r\n12,2,F,0,1,M,330000\r\n13,3,F,0,1,C,880000\r\n14,4,F,0,1,M,500000\r\n"
 
 /* The same where units 11 and 12 run, and where unit 12 runs on cost; the others start. */
 #define STARRED_11_AND_12_RUN \
@@ -20,8 +23,7 @@
      SCHEDULES "100,1,M,5,100,4000,50000,20000,1\r\n100,2,C,5,100,3000,50000,20000,1\r\n"}
 #define UNIT_100_ANSWER ANSWER_HEADER "100,1,U,0,2,C,1030000\r\n"
 
-/* Room for any answer here, and just for one without rows. */
-#define ENOUGH 150
+/* Room just for an answer without rows. */
 #define HEADER_ROOM (sizeof ANSWER_HEADER - 1)
 
 /* A study on a day, and the day afterwards. */
@@ -46,6 +48,23 @@ static const struct day_study day_studies[] = {
     {"n;12:M:100", "n;12:M:100", {"schedule 100", ENOUGH, "", {24, 0, 0}, STARRED}},
     {"5;12:M:1,10000:M:1", "5;12:M:1,10000:M:1", {"an ill-formed day before an empty constraint", 0, "", {24, 0, 0}, {"", "", ""}}},
     {"5;12:M:1", "5;12:M:1", {"an empty constraint", ENOUGH, "", {2, 1, 0}, {"", "", ""}}},
+};
+
+/* The same with a parents file. */
+struct parents_day_study {
+    const char *parents;
+    struct day_study day_study;
+};
+
+static const struct parents_day_study parents_day_studies[] = {
+    {PARENTS "1,2\r\n", {"-", STARRED_DAY, {"affiliated suppliers", ENOUGH, AFFILIATED_ANSWER, {0, 0, 0}, STARRED}}},
+    {PARENTS "4,900\r\n1,900\r\n",
+     {STARRED_DAY, STARRED_DAY, {"affiliated suppliers whose units run", ENOUGH, AFFILIATED_AGAIN, {0, 0, 0}, STARRED}}},
+    {PARENTS, {STARRED_DAY, STARRED_DAY, {"parents without rows", ENOUGH, STARRED_AGAIN, {0, 0, 0}, STARRED}}},
+    {PARENTS "1,2\r\n1,2\r\n", {"3;12:M:1", "3;12:M:1", {"a parent named twice", ENOUGH, "", {35, 5, 2}, STARRED}}},
+    {PARENTS "1,2\r\n2,3\r\n3,2\r\n", {"3;12:M:1", "3;12:M:1", {"a ring", ENOUGH, "", {36, 5, 2}, STARRED}}},
+    {PARENTS "1,1\r\n", {"6;12:M:1", "6;12:M:1", {"a ring before an earlier hour", ENOUGH, "", {36, 5, 1}, STARRED}}},
+    {PARENTS "1,1\r\n", {"24;", "24;", {"an ill-formed day before a ring", ENOUGH, "", {24, 0, 0}, STARRED}}},
 };
 
 /* A release: the unit, and the number of the refusal, 0 where it is accepted. */
@@ -129,12 +148,17 @@ static void full_day(uint64_t *day, uint64_t count) {
     day[CAPPING_CELL_COUNT] = count;
 }
 
-/* Studies on a copy of the given cells; afterwards they are those, or as they were where the study is refused. */
-static void study_on(const uint64_t *given, const uint64_t *after, const struct study *s) {
+/* Studies with a parents file on a copy of the given cells; afterwards they are those, or as they were where it is refused. */
+static void study_with(const char *parents, const uint64_t *given, const uint64_t *after, const struct study *s) {
     uint64_t *day = copy_of(given, DAY_BYTES);
-    expect_study(s, day);
+    expect_study_with(parents, s, day);
     require(s->name, "other cells", memcmp(day, s->report[0] == 0 ? after : given, DAY_BYTES) == 0);
     free(day);
+}
+
+/* The same without parents. */
+static void study_on(const uint64_t *given, const uint64_t *after, const struct study *s) {
+    study_with("", given, after, s);
 }
 
 /* Releases from a copy of the given cells; afterwards they are those, or as they were where the release is refused. */
@@ -147,11 +171,11 @@ static void release_from(const uint64_t *given, const uint64_t *after, const str
     free(day);
 }
 
-static void expect_day_study(const struct day_study *d) {
+static void expect_day_study(const char *parents, const struct day_study *d) {
     uint64_t given[CAPPING_DAY_CELLS], after[CAPPING_DAY_CELLS];
     read_day(given, d->day);
     read_day(after, d->after);
-    study_on(given, after, &d->study);
+    study_with(parents, given, after, &d->study);
 }
 
 static void expect_day_release(const struct day_release *d) {
@@ -232,7 +256,9 @@ static void expect_worked_day(void) {
 
 int main(void) {
     for (size_t i = 0; i < sizeof day_studies / sizeof *day_studies; i++)
-        expect_day_study(&day_studies[i]);
+        expect_day_study("", &day_studies[i]);
+    for (size_t i = 0; i < sizeof parents_day_studies / sizeof *parents_day_studies; i++)
+        expect_day_study(parents_day_studies[i].parents, &parents_day_studies[i].day_study);
     for (size_t i = 0; i < sizeof day_releases / sizeof *day_releases; i++)
         expect_day_release(&day_releases[i]);
     for (size_t i = 0; i < sizeof raw_releases / sizeof *raw_releases; i++)

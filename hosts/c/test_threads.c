@@ -22,16 +22,19 @@ struct worker {
 /* Held until every thread is there, so that they begin together. */
 static pthread_mutex_t start = PTHREAD_MUTEX_INITIALIZER;
 
+/* The longest chain of parents, which takes the most stack; written before the threads begin. */
+static char chain[CHAIN_ROOM];
+
 /* Studies on a day with the worker's unit, and releases that unit. Answers how much went wrong. */
-static int work_once(uint64_t unit, struct lent files) {
+static int work_once(uint64_t unit, struct lent files, const uint8_t *parents, size_t parents_len) {
     uint64_t day[CAPPING_DAY_CELLS], studied[CAPPING_DAY_CELLS], report[3];
     uint8_t answer[CAPPING_LONGEST_ANSWER];
-    size_t length = sizeof STARRED_ANSWER - 1;
+    size_t length = sizeof AFFILIATED_ANSWER - 1;
     int wrong = 0;
     capping_day_fresh(day);
     capping_day_add(day, unit, 'M', 1);
-    wrong += capping_day_study(day, LENT(files), answer, sizeof answer, report) != length;
-    wrong += memcmp(answer, STARRED_ANSWER, length) != 0;
+    wrong += capping_day_study(day, LENT(files), parents, parents_len, answer, sizeof answer, report) != length;
+    wrong += memcmp(answer, AFFILIATED_ANSWER, length) != 0;
     wrong += !capping_day_read(studied, STARRED_DAY);
     wrong += capping_day_release(day, unit + 1, report) != 23;
     wrong += capping_day_equal(day, studied);
@@ -44,10 +47,13 @@ static void *work(void *given) {
     struct worker *w = given;
     const struct files texts = STARRED;
     struct lent files = lend(&texts);
+    size_t parents_len = strlen(chain);
+    uint8_t *parents = copy_of(chain, parents_len);
     pthread_mutex_lock(&start);
     pthread_mutex_unlock(&start);
     for (int round = 0; round < ROUNDS; round++)
-        w->wrong += work_once(w->unit, files);
+        w->wrong += work_once(w->unit, files, parents, parents_len);
+    free(parents);
     take_back(files);
     return NULL;
 }
@@ -57,6 +63,7 @@ int main(void) {
     pthread_attr_t small;
     require("threads", "no small stack",
             pthread_attr_init(&small) == 0 && pthread_attr_setstacksize(&small, CALL_STACK + OWN_STACK) == 0);
+    write_chain(chain, MOST_PARENTS);
     pthread_mutex_lock(&start);
     for (int i = 0; i < THREADS; i++) {
         workers[i].unit = 101 + (uint64_t)i;

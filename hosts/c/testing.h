@@ -12,6 +12,7 @@
 #define CONSTRAINT "hour,relief,cutoff\r\n"
 #define SUPPLY "unit,supplier,mw,cost,dfax\r\n"
 #define SCHEDULES "unit,schedule,kind,hour,ecomin,price,noload,startup,minrun\r\n"
+#define PARENTS "supplier,parent\r\n"
 #define ANSWER_HEADER "unit,supplier,verdict,left,schedule,kind,cost\r\n"
 #define HOUR_5 CONSTRAINT "5,1000,300\r\n"
 
@@ -25,7 +26,23 @@
     ANSWER_HEADER "11,1,F,0,2,C,1030000\r\n12,2,F,0,1,M,330000\r\n13,3,F,0,1,C,890000\r\n14,4,F,5000000,1,M,500000\r\n"
 #define STARRED_DAY "5;11:C:2,12:M:1,13:C:1,14:M:1"
 
-/* The files of a study, as their texts. */
+/* Its answer where any of its suppliers are affiliated: unit 14's own group and two others are then all that supply, so that
+ * nothing is left for it either. */
+#define AFFILIATED_ANSWER \
+    ANSWER_HEADER "11,1,F,0,2,C,1030000\r\n12,2,F,0,1,M,330000\r\n13,3,F,0,1,C,890000\r\n14,4,F,0,1,M,500000\r\n"
+
+/* The most parents that a study may have, and room for the text of one more. */
+#define MOST_PARENTS 64
+#define CHAIN_ROOM 1024
+
+/* Writes a parents file of so many rows, in which suppliers from 1 on are each the child of the next. */
+static inline void write_chain(char text[CHAIN_ROOM], unsigned rows) {
+    size_t at = (size_t)snprintf(text, CHAIN_ROOM, "%s", PARENTS);
+    for (unsigned supplier = 1; supplier <= rows; supplier++)
+        at += (size_t)snprintf(text + at, CHAIN_ROOM - at, "%u,%u\r\n", supplier, supplier + 1);
+}
+
+/* The files of a study but for parents, as their texts. */
 struct files {
     const char *constraint;
     const char *supply;
@@ -34,6 +51,9 @@ struct files {
 
 #define STARRED {HOUR_5, STARRED_SUPPLY, STARRED_SCHEDULES}
 #define NO_UNITS {HOUR_5, SUPPLY, SCHEDULES}
+
+/* Room for any answer here. */
+#define ENOUGH 150
 
 /* A study: how long a buffer is lent, what is written or else what is reported. */
 struct study {
@@ -95,13 +115,14 @@ static inline void take_back(struct lent l) {
     free(l.schedules);
 }
 
-/* Studies on the day, or on a fresh one where that is NULL. */
-static inline void expect_study(const struct study *s, uint64_t *day) {
+/* Studies with a parents file, as its text, on the day, or on a fresh one where that is NULL. */
+static inline void expect_study_with(const char *text, const struct study *s, uint64_t *day) {
     struct lent files = lend(&s->files);
-    uint8_t *answer = untouched(s->room);
+    size_t parents_len = strlen(text);
+    uint8_t *parents = copy_of(text, parents_len), *answer = untouched(s->room);
     uint64_t *report = untouched(sizeof s->report);
-    uint64_t count = day == NULL ? capping_study(LENT(files), answer, s->room, report)
-                                 : capping_day_study(day, LENT(files), answer, s->room, report);
+    uint64_t count = day == NULL ? capping_study(LENT(files), parents, parents_len, answer, s->room, report)
+                                 : capping_day_study(day, LENT(files), parents, parents_len, answer, s->room, report);
     size_t length = strlen(s->answer), changed = 0;
     for (size_t i = length; i < s->room; i++)
         changed += answer[i] != UNTOUCHED_BYTE;
@@ -111,7 +132,13 @@ static inline void expect_study(const struct study *s, uint64_t *day) {
     require(s->name, "another report", memcmp(report, s->report, sizeof s->report) == 0);
     free(report);
     free(answer);
+    free(parents);
     take_back(files);
+}
+
+/* Studies without parents. */
+static inline void expect_study(const struct study *s, uint64_t *day) {
+    expect_study_with("", s, day);
 }
 
 #endif

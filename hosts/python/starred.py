@@ -6,6 +6,7 @@ import capping
 CONSTRAINT = b"hour,relief,cutoff\r\n"
 SUPPLY = b"unit,supplier,mw,cost,dfax\r\n"
 SCHEDULES = b"unit,schedule,kind,hour,ecomin,price,noload,startup,minrun\r\n"
+PARENTS = b"supplier,parent\r\n"
 ANSWER = b"unit,supplier,verdict,left,schedule,kind,cost\r\n"
 HOUR_5 = CONSTRAINT + b"5,1000,300\r\n"
 
@@ -19,7 +20,10 @@ STARRED_SCHEDULES = (
 STARRED = (HOUR_5, STARRED_SUPPLY, STARRED_SCHEDULES)
 STARRED_ANSWER = ANSWER + b"11,1,F,0,2,C,1030000\r\n12,2,F,0,1,M,330000\r\n13,3,F,0,1,C,890000\r\n14,4,F,5000000,1,M,500000\r\n"
 
-# The same study again, with its units running: no startup is paid, and only the hour itself.
+# The same where any two of its suppliers are affiliated: unit 14's own group and two others are then all that supply.
+AFFILIATED_ANSWER = STARRED_ANSWER.replace(b"14,4,F,5000000,", b"14,4,F,0,")
+
+# The starred study again, with its units running: no startup is paid, and only the hour itself.
 AGAIN_ANSWER = ANSWER + b"11,1,F,0,2,C,830000\r\n12,2,F,0,1,M,330000\r\n13,3,F,0,1,C,880000\r\n14,4,F,5000000,1,M,500000\r\n"
 STARRED_DAY = "5;11:C:2,12:M:1,13:C:1,14:M:1"
 

@@ -1,11 +1,12 @@
-"""Cases of the check, the study and the test from Python. What each must answer was worked from document 01."""
+"""Cases of the check, the study and the test from Python. What each must answer was worked from documents 01 and 02."""
 import pickle
 import unittest
 import unittest.mock
 
 import capping
 from capping import engine
-from starred import HOUR_5, SCHEDULES, STARRED, STARRED_ANSWER, STARRED_SCHEDULES, STARRED_SUPPLY, SUPPLY, Case
+from starred import AFFILIATED_ANSWER, HOUR_5, PARENTS, SCHEDULES, STARRED, STARRED_ANSWER, STARRED_SCHEDULES, STARRED_SUPPLY
+from starred import SUPPLY, Case
 
 MOST_AMOUNT = 10**12
 
@@ -52,6 +53,50 @@ class Study(Case):
         self.assertEqual(words, "refusal 8: a unit has no schedule (schedules, unit 11)")
 
 
+class Parents(Case):
+    def answered(self, rows):
+        return capping.study(*STARRED, parents=PARENTS + rows)
+
+    def told(self, number, place, rows):
+        return self.refused(number, 5, place, capping.study, *STARRED, parents=PARENTS + rows)
+
+    def test_none(self):
+        self.assertEqual(capping.study(*STARRED, parents=b""), STARRED_ANSWER)
+        self.assertEqual(self.answered(b""), STARRED_ANSWER)
+        self.assertEqual(self.answered(b"5,6\r\n"), STARRED_ANSWER)
+
+    def test_affiliated(self):
+        for rows in (b"1,2\r\n", b"4,900\r\n1,900\r\n", b"1,5\r\n5,6\r\n2,6\r\n"):
+            self.assertEqual(self.answered(rows), AFFILIATED_ANSWER)
+        self.assertEqual(capping.study(*STARRED, parents=memoryview(PARENTS + b"1,2")), AFFILIATED_ANSWER)
+
+    def test_room(self):
+        room = len(AFFILIATED_ANSWER)
+        self.assertEqual(capping.study(*STARRED, room, parents=PARENTS + b"1,2"), AFFILIATED_ANSWER)
+        self.refused(10, 0, 0, capping.study, *STARRED, room - 1, parents=PARENTS + b"1,2")
+
+    def test_refused_file(self):
+        self.assertEqual(self.told(1, 0, b"1,2\n"), "refusal 1: the file isn't CSV by RFC 4180 (parents)")
+        self.refused(2, 5, 0, capping.study, *STARRED, parents=b"\r\n")
+        self.told(2, 2, b"1,2\r\n3\r\n")
+        self.told(3, 1, b"1,1000\r\n")
+        self.told(4, 0, b"1,2\r\n" * 65)
+
+    def test_two_parents(self):
+        words = "refusal 35: a supplier is given two parents (parents, record 2)"
+        self.assertEqual(self.told(35, 2, b"1,2\r\n1,2\r\n"), words)
+        self.told(35, 3, b"1,1\r\n2,3\r\n2,4\r\n")
+
+    def test_ring(self):
+        words = "refusal 36: a chain of parents returns to its start (parents, record 2)"
+        self.assertEqual(self.told(36, 2, b"1,2\r\n2,3\r\n3,2\r\n"), words)
+        self.told(36, 1, b"1,1\r\n")
+
+    def test_by_name_alone(self):
+        with self.assertRaises(TypeError):
+            capping.study(*STARRED, capping.LONGEST_ANSWER, PARENTS)
+
+
 class Test(Case):
     def test_verdicts(self):
         self.assertEqual(capping.test([4, 3, 2, 1], 3, 2), (2, "P"))
@@ -75,7 +120,7 @@ class Test(Case):
 
 class Words(unittest.TestCase):
     def test_every_number(self):
-        for number in (*range(1, 12), *range(20, 25)):
+        for number in (*range(1, 12), *range(20, 25), 35, 36):
             self.assertIn(f"refusal {number}: ", str(capping.Refused(number)))
 
     def test_pickled(self):

@@ -6,11 +6,13 @@ import capping
 from capping import columns
 from capping.explain import explained
 from capping.records import NotCsv, records
-from starred import STARRED
+from starred import PARENTS, STARRED
 
 FIELD_REFUSED = 3
+SOUND = dict(zip(columns.FILES, (*STARRED, PARENTS + b"1,2\r\n")))
+NUMBERS = {name: number for number, name in capping.FILES.items()}
 FIELDS = (b"", b"0", b"1", b"-1", b"-0", b"-01", b"+1", b"01", b" 1", b"1.0", b"9" * 5000, b"M", b"C", b"m", b"MC", b"X")
-COLUMNS = [(file, at, column) for file, table in enumerate(columns.FILES) for at, column in enumerate(table.columns)]
+COLUMNS = [(file, at, column) for file, table in columns.FILES.items() for at, column in enumerate(table.columns)]
 
 SEED, MADE_FILES, MOST_PIECES = 20, 400, 12
 HEADER, ROW = b"hour,relief,cutoff\r\n", b"5,1000,300\r\n"
@@ -19,13 +21,11 @@ BAD_PIECES = (b"\r", b"\n", b"\t", b"\x00", b"\x7f", b"\x80", b"\xef\xbb\xbf", b
 
 
 def with_field(file, at, field):
-    """The starred files, with one field of the first row of a file replaced."""
-    files = list(STARRED)
-    header, row, *rest = files[file].split(b"\r\n")
+    """The sound files, with one field of the first row of a file replaced."""
+    header, row, *rest = SOUND[file].split(b"\r\n")
     fields = row.split(b",")
     fields[at] = field
-    files[file] = b"\r\n".join([header, b",".join(fields), *rest])
-    return files
+    return {**SOUND, file: b"\r\n".join([header, b",".join(fields), *rest])}
 
 
 def numeral(number):
@@ -35,39 +35,44 @@ def numeral(number):
 def refusal(files):
     """The refusal of a study, or None."""
     try:
-        capping.study(*files)
+        capping.study(**files)
     except capping.Refused as refused:
         return refused
     return None
 
 
+def field_refused(files):
+    """Whether a study is refused for a field."""
+    refused = refusal(files)
+    return refused is not None and refused.number == FIELD_REFUSED
+
+
 class Columns(unittest.TestCase):
     def test_headers(self):
-        for table, content in zip(columns.FILES, STARRED):
-            self.assertEqual(table.header().encode(), content.split(b"\r\n")[0])
+        for file, table in columns.FILES.items():
+            self.assertEqual(table.header().encode(), SOUND[file].split(b"\r\n")[0])
 
     def test_ranges(self):
         for file, at, column in COLUMNS:
             if column.form is columns.LETTER:
                 continue
             for edge in (column.minimum, column.maximum):
-                self.assertNotEqual(capping.check(*with_field(file, at, numeral(edge))), FIELD_REFUSED, column)
+                self.assertFalse(field_refused(with_field(file, at, numeral(edge))), column)
             for edge in (column.minimum - 1, column.maximum + 1):
-                self.assertEqual(capping.check(*with_field(file, at, numeral(edge))), FIELD_REFUSED, column)
+                self.assertTrue(field_refused(with_field(file, at, numeral(edge))), column)
 
     def test_permitted_as_by_the_engine(self):
         for file, at, column in COLUMNS:
             edges = (column.minimum - 1, column.minimum, column.maximum, column.maximum + 1)
             for field in (*FIELDS, *map(numeral, edges)):
-                number = capping.check(*with_field(file, at, field))
-                self.assertEqual(column.permits(field), number != FIELD_REFUSED, (column, field))
+                self.assertEqual(column.permits(field), not field_refused(with_field(file, at, field)), (column, field))
 
     def test_the_very_column_is_named(self):
         for file, at, column in COLUMNS:
             for field in (b"x", numeral(column.maximum + 1)):
                 files = with_field(file, at, field)
                 refused = refusal(files)
-                self.assertEqual((refused.number, refused.file, refused.place), (FIELD_REFUSED, file + 1, 1))
+                self.assertEqual((refused.number, refused.file, refused.place), (FIELD_REFUSED, NUMBERS[file], 1))
                 named = explained(refused, files, capping.Day())[2]
                 self.assertEqual(named, f"field {at + 1}, {column.name}: {field.decode()}")
 
@@ -90,7 +95,7 @@ class Records(unittest.TestCase):
         for _ in range(MADE_FILES):
             pieces = made.choices(PIECES + BAD_PIECES * made.randrange(2), k=made.randrange(MOST_PIECES))
             content = HEADER * made.randrange(2) + b"".join(pieces)
-            refused = refusal((content, b"", b""))
+            refused = refusal({**SOUND, "constraint": content, "supply": b""})
             shape = (refused.number, refused.place) if refused.file == 1 and refused.number in (1, 2) else None
             self.assertEqual(self.shape(content), shape, content)
             seen.add(shape)

@@ -1,4 +1,4 @@
-"""Cases of the command, run as people run it, each in a folder of its own. Answers were worked from document 01."""
+"""Cases of the command, run as people run it, each in a folder of its own. Answers were worked from documents 01 and 02."""
 import pathlib
 import shutil
 import subprocess
@@ -6,10 +6,11 @@ import sys
 import tempfile
 import unittest
 
-from starred import AGAIN_ANSWER, STARRED, STARRED_ANSWER, STARRED_DAY, SUPPLY
+from starred import AFFILIATED_ANSWER, AGAIN_ANSWER, PARENTS, STARRED, STARRED_ANSWER, STARRED_DAY, SUPPLY
 
 PACKAGES = pathlib.Path(__file__).resolve().parent
 NAMES = ("constraint.csv", "supply.csv", "schedules.csv")
+NOTHING_TO_REFUSE = b"nothing to refuse in constraint.csv, supply.csv and schedules.csv\n"
 MOST_BYTES = 65536
 
 
@@ -49,7 +50,7 @@ class Case(unittest.TestCase):
 
 class Check(Case):
     def test_nothing_to_refuse(self):
-        self.answers(b"nothing to refuse\n", "check", self.folder)
+        self.answers(NOTHING_TO_REFUSE, "check", self.folder)
 
     def test_refused(self):
         (self.folder / "supply.csv").write_bytes(SUPPLY + b"11,1,0,3000,5000\r\n")
@@ -73,6 +74,46 @@ class Check(Case):
         supply.write_bytes(b"x" * (MOST_BYTES + 1))
         (self.folder / "constraint.csv").unlink()
         self.fails(1, "refused: supply.csv is too long, a file may have 65536 bytes\n", "check", self.folder)
+
+
+class Parents(Case):
+    def setUp(self):
+        super().setUp()
+        self.parents = self.folder / "parents.csv"
+
+    def test_read_where_it_is_there(self):
+        self.parents.write_bytes(PARENTS + b"1,2\r\n")
+        self.answers(AFFILIATED_ANSWER, "study", self.folder)
+        self.answers(AFFILIATED_ANSWER, "study", self.folder, "--day", self.day)
+        self.assertEqual(self.day.read_text(), STARRED_DAY + "\n")
+
+    def test_empty(self):
+        for content in (b"", PARENTS):
+            self.parents.write_bytes(content)
+            self.answers(STARRED_ANSWER, "study", self.folder)
+
+    def test_refused(self):
+        self.day.write_text("4;\n")
+        self.parents.write_bytes(PARENTS + b"1,2\r\n2,3\r\n3,2\r\n")
+        words = (
+            "refused with 36: a chain of parents returns to its start\n"
+            "parents.csv, record 2: 2,3\n"
+            "its chain comes back: 2 -> 3 -> 2\n"
+            "docs/REFUSALS.md says how to mend it, under 36\n"
+        )
+        self.fails(1, words, "study", self.folder, "--day", self.day)
+
+    def test_length(self):
+        self.parents.write_bytes(b"x" * MOST_BYTES)
+        self.fails(1, "refused with 2: ", "study", self.folder)
+        self.parents.write_bytes(b"x" * (MOST_BYTES + 1))
+        (self.folder / "constraint.csv").unlink()
+        self.fails(1, "refused: parents.csv is too long, a file may have 65536 bytes\n", "study", self.folder)
+
+    def test_no_part_in_the_check(self):
+        for content in (b"\t", b"x" * (MOST_BYTES + 1)):
+            self.parents.write_bytes(content)
+            self.answers(NOTHING_TO_REFUSE, "check", self.folder)
 
 
 class Study(Case):
@@ -175,6 +216,12 @@ class Usage(Case):
             self.assertEqual((ran.returncode, ran.stderr), (0, b""))
             for words in (b"exit status:", b"  0  there", b"  1  refused", b"  2  wrong usage", b"docs/REFUSALS.md"):
                 self.assertIn(words, ran.stdout)
+
+    def test_help_says_what_reads_parents(self):
+        for arguments in ((), ("check",), ("study",)):
+            printed = self.run_command(*arguments, "--help").stdout
+            self.assertIn(b"A study reads parents.csv too where FOLDER has it", printed)
+            self.assertIn(b"A check takes the three files alone.", printed)
 
     def test_without_the_engine(self):
         packages = self.folder / "hosts" / "python"

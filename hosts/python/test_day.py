@@ -1,4 +1,4 @@
-"""Cases of a day of several studies from Python. What each must answer was worked from document 01."""
+"""Cases of a day of several studies from Python. What each must answer was worked from documents 01 and 02."""
 import copy
 import pickle
 import threading
@@ -6,8 +6,8 @@ import unittest
 
 import capping
 from capping import Day, Running
-from starred import AGAIN_ANSWER, ANSWER, CONSTRAINT, HOUR_5, SCHEDULES, STARRED, STARRED_ANSWER, STARRED_DAY, SUPPLY
-from starred import Case, others
+from starred import AFFILIATED_ANSWER, AGAIN_ANSWER, ANSWER, CONSTRAINT, HOUR_5, PARENTS, SCHEDULES, STARRED, STARRED_ANSWER
+from starred import STARRED_DAY, SUPPLY, Case, others
 
 STARRED_RUNNING = (Running(11, "C", 2), Running(12, "M", 1), Running(13, "C", 1), Running(14, "M", 1))
 NO_UNITS_HOUR_4 = (CONSTRAINT + b"4,1000,300\r\n", SUPPLY, SCHEDULES)
@@ -55,6 +55,20 @@ class Study(DayCase):
         self.refused_unchanged(2, 1, 0, day, day.study, b"", b"", b"")
         with self.assertRaises(TypeError):
             day.study("", "", "")
+
+    def test_affiliated(self):
+        day = Day.fresh()
+        self.assertEqual(day.study(*STARRED, parents=PARENTS + b"1,2"), AFFILIATED_ANSWER)
+        self.assertEqual(str(day), STARRED_DAY)
+        again = AGAIN_ANSWER.replace(b"14,4,F,5000000,", b"14,4,F,0,")
+        self.assertEqual(day.study(*STARRED, parents=PARENTS + b"1,2"), again)
+        self.assertEqual(day.study(*STARRED, parents=PARENTS), AGAIN_ANSWER)
+
+    def test_refused_by_parents(self):
+        day = Day.parse(STARRED_DAY)
+        self.refused_unchanged(35, 5, 2, day, day.study, *STARRED, parents=PARENTS + b"1,2\r\n1,2")
+        self.refused_unchanged(36, 5, 2, day, day.study, *STARRED, parents=PARENTS + b"1,2\r\n2,3\r\n3,2")
+        self.refused_unchanged(36, 5, 1, day, day.study, *NO_UNITS_HOUR_4, parents=PARENTS + b"1,1")
 
     def test_refused_by_the_hour(self):
         day = Day.parse(STARRED_DAY)

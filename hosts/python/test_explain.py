@@ -1,9 +1,11 @@
-"""Cases of a refusal told in plain words. The number and place of each were worked from document 01."""
+"""Cases of a refusal told in plain words. The number and place of each were worked from documents 01 and 02."""
 import unittest
 
 import capping
+from capping import columns
 from capping.explain import explained, shown
-from starred import CONSTRAINT, HOUR_5, SCHEDULES, STARRED, STARRED_DAY, STARRED_SCHEDULES, STARRED_SUPPLY, SUPPLY, others
+from starred import CONSTRAINT, HOUR_5, PARENTS, SCHEDULES, STARRED, STARRED_DAY, STARRED_SCHEDULES, STARRED_SUPPLY, SUPPLY
+from starred import others
 
 BUT_CONSTRAINT = (STARRED_SUPPLY, STARRED_SCHEDULES)
 ROW_11 = b"11,1,M,5,100,4000,50000,20000,1\r\n"
@@ -13,8 +15,9 @@ class Case(unittest.TestCase):
     def told(self, files, *details, day="-"):
         """Requires a study of the files to be refused, and the lines between its number and the page to be these."""
         day = capping.Day.parse(day)
+        files = dict(zip(columns.FILES, files))
         with self.assertRaises(capping.Refused) as raised:
-            day.study(*files)
+            day.study(**files)
         refused = raised.exception
         first, *lines, last = explained(refused, files, day)
         self.assertEqual(first, f"refused with {refused.number}: {refused.meaning}")
@@ -123,6 +126,45 @@ class BetweenRows(Case):
         self.assertEqual(self.told((HOUR_5, STARRED_SUPPLY, SCHEDULES + ROW_11), "schedules.csv, unit 12"), 8)
         hour_6 = CONSTRAINT + b"6,1000,300\r\n"
         self.assertEqual(self.told((hour_6, *BUT_CONSTRAINT), "schedules.csv, unit 11"), 9)
+
+
+class OfParents(Case):
+    def told_of(self, rows, *details):
+        return self.told((*STARRED, PARENTS + rows), *details)
+
+    def test_alone(self):
+        words = "parents.csv, record 1, goes wrong in field 2: 2\\n"
+        self.assertEqual(self.told_of(b"1,2\n", words), 1)
+        words = "parents.csv, record 0: (blank)", "the header should be: supplier,parent"
+        self.assertEqual(self.told((*STARRED, b"\r\n"), *words), 2)
+        words = "parents.csv, record 2: 3", "it has 1 field and should have 2"
+        self.assertEqual(self.told_of(b"1,2\r\n3", *words), 2)
+        words = (
+            "parents.csv, record 1: 1,1000",
+            "field 2, parent: 1000",
+            "it should be a whole number from 1 to 999, in digits alone with no leading zero",
+        )
+        self.assertEqual(self.told_of(b"1,1000", *words), 3)
+        words = "parents.csv has 65 rows below its header and should have at most 64"
+        self.assertEqual(self.told_of(b"1,2\r\n" * 65, words), 4)
+
+    def test_two_parents(self):
+        words = "parents.csv, record 3: 1,4", "at odds with record 1, which has parent 2 for supplier 1: 1,2"
+        self.assertEqual(self.told_of(b"1,2\r\n3,4\r\n1,4", *words), 35)
+        words = 'parents.csv, record 2: "1",2', 'at odds with record 1, which has parent 2 for supplier 1: 1,"2"'
+        self.assertEqual(self.told_of(b'1,"2"\r\n"1",2', *words), 35)
+
+    def test_ring(self):
+        words = "parents.csv, record 2: 2,3", "its chain comes back: 2 -> 3 -> 2"
+        self.assertEqual(self.told_of(b"1,2\r\n2,3\r\n3,2", *words), 36)
+        words = "parents.csv, record 1: 7,7", "its chain comes back: 7 -> 7"
+        self.assertEqual(self.told_of(b"7,7", *words), 36)
+
+    def test_longest_ring(self):
+        chain = [*range(101, 165), 101]
+        rows = b"".join(b"%d,%d\r\n" % step for step in zip(chain, chain[1:]))
+        words = "parents.csv, record 1: 101,102", f"its chain comes back: {' -> '.join(map(str, chain))}"
+        self.assertEqual(self.told_of(rows, *words), 36)
 
 
 class OfTheDay(Case):

@@ -18,7 +18,7 @@ use Rattle.schedules.specs.Schedules.{scheduleOdds, schedulesAtOdds, own}
 use Rattle.schedules.proofs.OddsLaws.{odds-hours}
 use Rattle.choice.specs.Cost.{hourCost, runningCost, inItsRun, share, runCost, startingCost, cost}
 use Rattle.commitment.proofs.CostLaws.{mostHour, hour-small}
-use Rattle.judge.proofs.SearchLaws.{odds-none}
+use Rattle.base.proofs.SearchLaws.{odds-none}
 
 -- the highest startup
 abbrev mostStartup : ℕ

@@ -26,17 +26,18 @@ kind-byte M = omega arith
 kind-byte C = omega arith
 
 row-lettered :
-    (c : ConstraintRow) (supply : List SupplyRow) (scheduled : List ScheduleRow) (running : List RunningUnit) (u : ℕ) →
-    Lettered (decidedRow c supply scheduled running u)
+    (c : ConstraintRow) (supply : List SupplyRow) (scheduled : List ScheduleRow) (running : List RunningUnit)
+    (filed : List SupplyRow) (u : ℕ) → Lettered (decidedRow c supply scheduled running filed u)
 unfolding decidedRow
-row-lettered c supply scheduled running u =
+row-lettered c supply scheduled running filed u =
     record {
       verdict = verdict-byte (verdictOf c supply (party (unitRow supply u)));
       kind = kind-byte (chosenOr (choiceOf c supply scheduled running u) .kind);
     }
 
 pub decided-lettered :
-    (c : ConstraintRow) (supply : List SupplyRow) (scheduled : List ScheduleRow) (running : List RunningUnit) →
-    All Lettered (decided c supply scheduled running)
+    (c : ConstraintRow) (supply : List SupplyRow) (scheduled : List ScheduleRow) (running : List RunningUnit)
+    (filed : List SupplyRow) → All Lettered (decided c supply scheduled running filed)
 unfolding decided
-decided-lettered c supply scheduled running = all-map _ (units supply) (λ u m. row-lettered c supply scheduled running u)
+decided-lettered c supply scheduled running filed =
+    all-map _ (units supply) (λ u m. row-lettered c supply scheduled running filed u)

@@ -7,7 +7,7 @@ use mathlib.Core.Logic.{_≢_, ⊎-elim}
 use mathlib.Core.List.{List, List·Memᴰ as Among}
 use mathlib.Core.Option.{none}
 use native.Mathlib.Omega.{arith}
-use lib.ListN.{length}
+use lib.ListN.{length, length-map}
 use Rattle.base.specs.Search.{All}
 use Rattle.base.proofs.Elements.{all-mem, all-those, those-mem}
 use Rattle.base.proofs.Tests.{eq-or-ne, lt-or-ge}
@@ -16,7 +16,8 @@ use Rattle.tables.specs.Rows.{SupplyRow, ScheduleRow}
 use Rattle.tables.specs.declared.constraint.ConstraintRow.{ConstraintRow}
 use Rattle.tables.specs.Table.{table}
 use Rattle.tables.specs.declared.files.File.the-variants.{Supply}
-use Rattle.filing.specs.Filing.{Files, constraintOf, supplyOf, schedulesOf}
+use Rattle.filing.specs.Filing.{Files, constraintOf, supplyOf, parentsOf, groupsOf}
+use Rattle.affiliates.specs.Affiliates.{head, inPlace, grouped}
 use Rattle.schedules.specs.Schedules.{own, schedulesAtOdds}
 use Rattle.supply.specs.Supply.{units}
 use Rattle.market.specs.Clearing.{eligibleSupply}
@@ -29,17 +30,18 @@ use Rattle.choice.specs.declared.choosing.Choice.{Choice}
 use Rattle.cells.specs.Views.{AnswerRow}
 use Rattle.judge.specs.Answer.{verdictLetter}
 use Rattle.judge.specs.Day.{RunningUnit, DayView, kindRunning}
-use Rattle.judge.specs.Decision.{unitRow, need, cleared, decidedRow}
-use Rattle.judge.specs.Right.{RightTest, RightSchedule, RightRow}
+use Rattle.judge.specs.Decision.{unitRow, need, cleared}
+use Rattle.judge.specs.Right.{RightTest, RightSchedule}
 use Rattle.judge.specs.Study.{studyRows, answerFile, decisionRefusal}
-use Rattle.judge.proofs.RowLaws.{row-right}
-use Rattle.judge.proofs.Sound.{files-kept, sound, some-need}
+use Rattle.judge.proofs.RowLaws.{RightOf, row-right}
+use Rattle.judge.proofs.RowsToBytes.{studyRow, study-row-unit}
+use Rattle.judge.proofs.Sound.{files-kept, groups-units, groups-permitted, sound, some-need}
 use Rattle.judge.proofs.TestRight.{cleared-clears}
 use Rattle.judge.proofs.UnitSupplier.{unit-row}
 use Rattle.answer.specs.Longest.{Ranged, leftDigits, scheduleDigits, costDigits, longest}
 use Rattle.answer.proofs.LongestLaws.{answer-most}
 use Rattle.answer.proofs.RunCosts.{cost-small}
-use Rattle.answer.proofs.StudyRows.{studyRow, study-all, study-count}
+use Rattle.answer.proofs.StudyRows.{study-all, study-count}
 
 -- what is left is what some removal leaves, and that is at most what all rows supply
 module _
@@ -89,29 +91,30 @@ module _
         )
 
 module _ (d : DayView) (f : Files) (e : decisionRefusal d f ≡ none) where
-  right-ranged :
-      (r : AnswerRow) → Among (r .unit) (units (supplyOf (f .supply))) →
-      RightRow (constraintOf (f .constraint)) (supplyOf (f .supply)) (schedulesOf (f .schedules)) (d .running) r →
-      Ranged r
+  groups-most : length (groupsOf f) ≤ table Supply .mostRows
+  unfolding groupsOf grouped
+  groups-most = rw (length-map (supplyOf (f .supply)) (inPlace (head (parentsOf (f .parents))))) (files-kept d f e .supply-few)
+
+  right-ranged : (r : AnswerRow) → Among (r .unit) (units (supplyOf (f .supply))) → RightOf d f e r → Ranged r
   right-ranged r m t =
       let k = files-kept d f e in
       let w = unitRow (supplyOf (f .supply)) (r .unit) in
-      let i = unit-row (constraintOf (f .constraint)) (supplyOf (f .supply)) (r .unit) m in
+      let i = unit-row (supplyOf (f .supply)) (r .unit) m in
       let p = all-mem (k .supply-permitted) (i .a-row) in
       let positive = k .constraint-permitted .some-cutoff in
+      let g : Among (r .unit) (units (groupsOf f)) = rw (groups-units d f e) m in
       record {
         unit = omega (arith, i .its-unit, p .unit);
         supplier = omega (arith, t .supplier w i, p .supplier);
         left =
-            left-small (constraintOf (f .constraint)) (supplyOf (f .supply)) positive (some-need (sound d f e)) (k .supply-few) (k .supply-permitted)
-            (t .tested w i);
+            left-small (constraintOf (f .constraint)) (groupsOf f) positive (some-need (sound d f e)) groups-most (groups-permitted d f e)
+            (t .tested (unitRow (groupsOf f) (r .unit)) (unit-row (groupsOf f) (r .unit) g));
         schedule = schedule-small (k .schedules-permitted) (k .schedules-agree) (t .schedule);
         cost = shown-cost-small (k .schedules-permitted) (k .schedules-agree) (t .schedule);
       }
 
   pub study-ranged : All Ranged (studyRows d f)
-  unfolding decidedRow
-  study-ranged = study-all d f (λ u m. right-ranged (studyRow d f u) m (row-right d f e u m))
+  study-ranged = study-all d f (λ u m. right-ranged (studyRow d f u) (rw (study-row-unit d f u) m) (row-right d f e u m))
 
   pub study-longest : length (answerFile d f) ≤ longest
   unfolding answerFile

@@ -4,12 +4,12 @@ use mathlib.Core.Path.{_≡_, refl}
 use mathlib.Core.List.{List, [], _∷_, map, List·Memᴰ as Among, List·Memᴰ·head as first, List·Memᴰ·tail as later}
 use lib.ListN.{length, length-map}
 use Rattle.base.specs.Search.{All, all-none, all-more}
-use Rattle.filing.specs.Filing.{Files, constraintOf, supplyOf, schedulesOf}
+use Rattle.filing.specs.Filing.{Files, supplyOf}
 use Rattle.supply.specs.Supply.{units}
 use Rattle.cells.specs.Views.{AnswerRow}
 use Rattle.judge.specs.Day.{DayView}
-use Rattle.judge.specs.Decision.{decidedRow, decided}
 use Rattle.judge.specs.Study.{studyRows}
+use Rattle.judge.proofs.RowsToBytes.{studyRow, study-rows}
 
 pub all-map :
     {A B : Type 0} {P : B → Type 0} (f : A → B) (xs : List A) → ((x : A) → Among x xs → P (f x)) → All P (map f xs)
@@ -17,14 +17,8 @@ all-map f [] h = all-none
 all-map f (x ∷ xs) h = all-more (h x (first refl)) (all-map f xs (λ y m. h y (later m)))
 
 module _ (d : DayView) (f : Files) where
-  -- the row of a unit
-  abbrev pub studyRow : ℕ → AnswerRow
-  studyRow = decidedRow (constraintOf (f .constraint)) (supplyOf (f .supply)) (schedulesOf (f .schedules)) (d .running)
-
-  pub study-all : {P : AnswerRow → Type 0} → ((u : ℕ) → Among u (units (supplyOf (f .supply))) → P (studyRow u)) → All P (studyRows d f)
-  unfolding studyRows decided
-  study-all each = all-map studyRow (units (supplyOf (f .supply))) each
+  pub study-all : {P : AnswerRow → Type 0} → ((u : ℕ) → Among u (units (supplyOf (f .supply))) → P (studyRow d f u)) → All P (studyRows d f)
+  study-all each = rw (study-rows d f) (all-map (studyRow d f) (units (supplyOf (f .supply))) each)
 
   pub study-count : length (studyRows d f) ≡ length (units (supplyOf (f .supply)))
-  unfolding studyRows decided
-  study-count = length-map (units (supplyOf (f .supply))) studyRow
+  study-count = rw (study-rows d f) (length-map (units (supplyOf (f .supply))) (studyRow d f))

@@ -11,6 +11,11 @@ pub all-mem : {A : Type 0} {P : A → Type 0} {xs : List A} {x : A} → All P xs
 all-mem {P} (all-more p a) (List·Memᴰ·head e) = rw e p
 all-mem (all-more p a) (List·Memᴰ·tail m) = all-mem a m
 
+-- what each element has, all have
+pub all-of : {A : Type 0} {P : A → Type 0} (xs : List A) → ((x : A) → List·Memᴰ x xs → P x) → All P xs
+all-of [] f = all-none
+all-of {A} (x ∷ xs) f = all-more (f x (List·Memᴰ·head refl)) (all-of xs (λ (y : A) (m : List·Memᴰ y xs). f y (List·Memᴰ·tail m)))
+
 module _ {A : Type 0} (p : A → Bool) where
   -- one that passes, where some element does
   pub any-mem : (xs : List A) → any p xs ≡ true → (x : A) × List·Memᴰ x xs × (p x ≡ true)

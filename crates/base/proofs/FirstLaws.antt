@@ -34,6 +34,15 @@ module _ {A : Type 0} where
   first-of-rest (none ∷ os) ps e = first-of-rest os ps e
   first-of-rest (some x ∷ os) ps e = let z : _≡_ {A = ℕ} 0 1 = cc in absurd (omega arith)
 
+  -- a part counts by its first
+  pub first-of-between : (os bs ps : List (Option A)) → firstOf (os ++ (bs ++ ps)) ≡ firstOf (os ++ (firstOf bs ∷ ps))
+  unfolding firstOf
+  first-of-between [] [] ps = refl
+  first-of-between [] (none ∷ bs) ps = first-of-between [] bs ps
+  first-of-between [] (some x ∷ bs) ps = refl
+  first-of-between (none ∷ os) bs ps = first-of-between os bs ps
+  first-of-between (some x ∷ os) bs ps = refl
+
   pub first-of-parts-none : (os ps : List (Option A)) → firstOf (os ++ ps) ≡ none → (firstOf os ≡ none) × (firstOf ps ≡ none)
   unfolding firstOf
   first-of-parts-none [] ps e = (refl, e)

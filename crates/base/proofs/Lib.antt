@@ -4,6 +4,7 @@ pub mod FirstLaws
 pub mod Lists
 pub mod Members
 pub mod RisingLaws
+pub mod SearchLaws
 pub mod Searches
 pub mod Tests
 pub mod Writers

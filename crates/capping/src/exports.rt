@@ -19,21 +19,22 @@ const FAILED: u64 = 1;
 
 const TEST_REFUSED: u64 = 11;
 
-// Studies a fresh day: how many bytes were written, 0 where it is refused; the report is number, file
+// Studies a fresh day; parents of no bytes are none. Answers how many bytes were written, 0 where it is refused; the report is number, file
 // and place, all 0 where it is accepted.
 #[no_mangle]
 pub extern "C" fn capping_study(
     constraint: &[u8],
     supply: &[u8],
     schedules: &[u8],
+    parents: &[u8],
     answer: &mut [u8],
     report: &mut [u64; 3],
 ) -> u64
-    ensures { λ r. ⌜ StudyTold freshDay (files (now (constraint .entry)) (now (supply .entry)) (now (schedules .entry))) (now (answer .entry)) (now (answer .exit)) (now (report .exit)) r ⌝ }
-    ensures { λ r. ⌜ ToldRight freshDay (files (now (constraint .entry)) (now (supply .entry)) (now (schedules .entry))) (now (answer .exit)) r ⌝ }
+    ensures { λ r. ⌜ StudyTold freshDay (files (now (constraint .entry)) (now (supply .entry)) (now (schedules .entry)) (now (parents .entry))) (now (answer .entry)) (now (answer .exit)) (now (report .exit)) r ⌝ }
+    ensures { λ r. ⌜ ToldRight freshDay (files (now (constraint .entry)) (now (supply .entry)) (now (schedules .entry)) (now (parents .entry))) (now (answer .exit)) r ⌝ }
 {
     let day = Day::fresh();
-    let studied = day.study(constraint, supply, schedules, answer);
+    let studied = day.study(constraint, supply, schedules, parents, answer);
     let study = studied.answer;
     tell(of_study(study), report);
     count_of(study)

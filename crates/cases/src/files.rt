@@ -7,6 +7,7 @@ use crate::lines::LF;
 use numeral::Answer;
 use tables::CONSTRAINT_HEADER;
 use tables::File;
+use tables::PARENTS_HEADER;
 use tables::SCHEDULES_HEADER;
 use tables::SUPPLY_HEADER;
 use texts::after;
@@ -24,6 +25,7 @@ pub fn put_header(file: File, out: &mut [u8]) -> usize
         File::Constraint => put(&CONSTRAINT_HEADER, out),
         File::Supply => put(&SUPPLY_HEADER, out),
         File::Schedules => put(&SCHEDULES_HEADER, out),
+        File::Parents => put(&PARENTS_HEADER, out),
     }
 }
 

@@ -7,8 +7,8 @@ use native.Mathlib.Nat.{suc-mul, zero-mul, le-of-suc-le-suc, not-suc-le-zero}
 use native.Mathlib.Numerals.{add-one}
 use lib.ListN.{length, getD, take, drop, length-map}
 use lib.Seq.{drop-drop, getD-drop, getD-take}
-use Rattle.tables.specs.Rows.{supplyRow, scheduleRow, rowsOf, supplyRows, scheduleRows}
-use Rattle.cells.specs.Views.{supplyAt, scheduleAt, answerAt, answerRow, answerRows}
+use Rattle.tables.specs.Rows.{supplyRow, scheduleRow, parentRow, rowsOf, supplyRows, scheduleRows, parentRows}
+use Rattle.cells.specs.Views.{supplyAt, scheduleAt, parentAt, answerAt, answerRow, answerRows}
 
 pub rows-length : (w n : ℕ) (cs : List ℕ) → length (rowsOf w n cs) ≡ n
 unfolding rowsOf
@@ -86,6 +86,20 @@ schedule-next n cs i h =
 pub schedule-length : (n : ℕ) (cs : List ℕ) → length (scheduleRows n cs) ≡ n
 unfolding scheduleRows
 schedule-length n cs = length-map (rowsOf 9 n cs) scheduleRow ∙ rows-length 9 n cs
+
+-- the rows of parents
+parent-cells : (cs : List ℕ) (i : ℕ) → parentRow (take 2 (drop (i * 2) cs)) ≡ parentAt cs i
+parent-cells cs i = rw (cell-at 2 cs i 0 (omega arith), cell-at 2 cs i 1 (omega arith))
+
+pub parent-next :
+    (n : ℕ) (cs : List ℕ) (i : ℕ) → i < n → drop i (parentRows n cs) ≡ parentAt cs i ∷ drop (i + 1) (parentRows n cs)
+unfolding parentRows
+parent-next n cs i h =
+    rw (add-one i, map-drop parentRow i (rowsOf 2 n cs), row-at 2 n cs i h, map-drop parentRow (suc i) (rowsOf 2 n cs), parent-cells cs i)
+
+pub parent-length : (n : ℕ) (cs : List ℕ) → length (parentRows n cs) ≡ n
+unfolding parentRows
+parent-length n cs = length-map (rowsOf 2 n cs) parentRow ∙ rows-length 2 n cs
 
 -- the rows of an answer
 answer-cells : (cs : List ℕ) (i : ℕ) → answerRow (take 7 (drop (i * 7) cs)) ≡ answerAt cs i

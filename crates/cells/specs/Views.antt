@@ -3,7 +3,7 @@
 use Prim.Native.Nat.{ℕ, _+_, _*_}
 use mathlib.Core.List.{List, map}
 use lib.ListN.{getD}
-use Rattle.tables.specs.Rows.{SupplyRow, ScheduleRow, rowsOf}
+use Rattle.tables.specs.Rows.{SupplyRow, ScheduleRow, ParentRow, rowsOf}
 
 -- the cells of a row
 abbrev pub supplyWidth : ℕ
@@ -11,6 +11,9 @@ supplyWidth = 5
 
 abbrev pub scheduleWidth : ℕ
 scheduleWidth = 9
+
+abbrev pub parentWidth : ℕ
+parentWidth = 2
 
 abbrev pub answerWidth : ℕ
 answerWidth = 7
@@ -37,6 +40,13 @@ scheduleAt cs i =
       noload = getD cs (i * scheduleWidth + 6) 0;
       startup = getD cs (i * scheduleWidth + 7) 0;
       minrun = getD cs (i * scheduleWidth + 8) 0;
+    }
+
+abbrev pub parentAt : List ℕ → ℕ → ParentRow
+parentAt cs i =
+    record {
+      supplier = getD cs (i * parentWidth + 0) 0;
+      parent = getD cs (i * parentWidth + 1) 0;
     }
 
 -- a row of the answer, with verdict and kind as their letters

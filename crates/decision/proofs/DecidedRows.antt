@@ -23,10 +23,10 @@ module _ (c : ConstraintRow) (supply : List SupplyRow) (scheduled : List Schedul
   tested-units (u ∷ us) = ap (λ (more : List ℕ). u ∷ more) (tested-units us)
 
   chosen-rows :
-      (us : List ℕ) → map (rowChosen (c .hour) scheduled running) (map (unitTest c supply) us) ≡ map (decidedRow c supply scheduled running) us
+      (us : List ℕ) → map (rowChosen (c .hour) scheduled running) (map (unitTest c supply) us) ≡ map (decidedRow c supply scheduled running supply) us
   unfolding unitTest rowChosen decidedRow choiceOf
   chosen-rows [] = refl
-  chosen-rows (u ∷ us) = ap (λ (more : List AnswerRow). decidedRow c supply scheduled running u ∷ more) (chosen-rows us)
+  chosen-rows (u ∷ us) = ap (λ (more : List AnswerRow). decidedRow c supply scheduled running supply u ∷ more) (chosen-rows us)
 
   pub decides-rows :
       (k : ℕ) (us : List ℕ) → UnitsOf k supply us → (ts : List UnitTest) → ts ≡ map (unitTest c supply) (take k us) →

@@ -11,10 +11,10 @@ use Rattle.decision.specs.Choosing.{answerOf}
 use Rattle.decision.specs.declared.deciding.Decided.{Decided}
 use Rattle.decision.specs.declared.deciding.Decided.the-variants.{All}
 
--- what the study's definition decides, with these units running
+-- what the study's definition decides, with these units running; the suppliers shown are those of the rows
 pub record DecidesRows
     (c : ConstraintRow) (supply : List SupplyRow) (scheduled : List ScheduleRow) (running : List RunningUnit) (k : ℕ)
     (new : List ℕ) (r : Decided) : Type 0
   where
     pub answers : r ≡ answerOf (costless (c .hour) supply scheduled running)
-    pub rows : r ≡ All → answerRows k new ≡ decided c supply scheduled running
+    pub rows : r ≡ All → answerRows k new ≡ decided c supply scheduled running supply

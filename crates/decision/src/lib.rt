@@ -3,9 +3,12 @@
 // runs of cells, which their readers know to be within the table's ranges.
 mod choosing;
 mod deciding;
+mod naming;
 mod standing;
 mod testing;
 mod units;
 
 pub use deciding::Decided;
 pub use deciding::decide;
+pub use naming::list_suppliers;
+pub use naming::name_suppliers;

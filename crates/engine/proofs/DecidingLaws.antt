@@ -2,7 +2,7 @@
 use Prim.Native.Nat.{ℕ, _*_, _≤_, _<_}
 use mathlib.Core.Path.{_≡_, refl, sym, _∙_, ap}
 use mathlib.Core.Bool.{Bool, true, false, not}
-use mathlib.Core.List.{List, map, append-assoc}
+use mathlib.Core.List.{List, [], _∷_, map, append-assoc}
 use mathlib.Core.Option.{Option, none, some, Option·map}
 use native.Mathlib.Omega.{arith}
 use lib.Dec.{leb}
@@ -16,7 +16,7 @@ use Rattle.tables.specs.declared.files.File.the-variants.{Schedules}
 use Rattle.tables.specs.declared.files.Refusal.{Refusal}
 use Rattle.cells.specs.Views.{AnswerRow, answerRows, answerWidth}
 use Rattle.supply.specs.Supply.{units}
-use Rattle.filing.specs.Filing.{Files, constraintOf, supplyOf, schedulesOf, marketRefusals, besideRefusals, filingRefusals, filingRefusal}
+use Rattle.filing.specs.Filing.{Files, constraintOf, supplyOf, schedulesOf, groupsOf, marketRefusals, besideRefusals, filingRefusals, filingRefusal}
 use Rattle.base.proofs.FirstLaws.{first-of-one, first-of-here, first-of-later, first-of-part, first-of-rest}
 use Rattle.decision.specs.Deciding.{DecidesRows as RowsDecide}
 use Rattle.decision.specs.Units.{UnitsOf}
@@ -27,7 +27,7 @@ use Rattle.judge.specs.Day.{RunningUnit, mostRunning, dayFormed, stateRefused, 
 use Rattle.judge.specs.Decision.{decided, costless}
 use Rattle.judge.specs.Study.{crowding, rowsRefusals, studyRows, decisionRefusals, decisionRefusal}
 use Rattle.judge.proofs.RowsToBytes.{rows-units}
-use Rattle.engine.specs.Deciding.{RowsReady, Laid, Decides, DecidesRows, DecidesMarket, DecidesStudy}
+use Rattle.engine.specs.Deciding.{RowsReady, Laid, Decides, DecidesRows, DecidesMarket, DecidesGroups, DecidesStudy}
 use Rattle.engine.specs.View.{viewOf}
 use Rattle.engine.specs.declared.day.Day.{Day}
 use Rattle.engine.specs.declared.deciding.Deciding.{Deciding}
@@ -77,11 +77,11 @@ module _
         w ≤ mostRunning → RowsReady running k new
     unfolding decided
     rows-ready us of-supply room e w counted few =
-        let by-unit : map (λ (a : AnswerRow). a .unit) (answerRows k new) ≡ units rows = rw (decides .rows e) (rows-units c rows scheduled running (units rows)) in
+        let by-unit : map (λ (a : AnswerRow). a .unit) (answerRows k new) ≡ units rows = rw (decides .rows e) (rows-units c rows scheduled running rows (units rows)) in
         record {
           few = of-supply .few;
           there = room;
-          lettered = rw (decides .rows e) (decided-lettered c rows scheduled running);
+          lettered = rw (decides .rows e) (decided-lettered c rows scheduled running rows);
           rising = rw by-unit (of-supply .rising);
           fit = rw (by-unit, ← of-supply .listed) (omega (arith, counted));
         }
@@ -125,7 +125,7 @@ module _ (day : Day) (c : ConstraintRow) (supply : List SupplyRow) (scheduled : 
           g
 
       pub rows-laid :
-          w ≤ mostRunning → (k : ℕ) → r ≡ Rows (c .hour) k → answerRows k new ≡ decided c supply scheduled (viewOf day .running) →
+          w ≤ mostRunning → (k : ℕ) → r ≡ Rows (c .hour) k → answerRows k new ≡ decided c supply scheduled (viewOf day .running) supply →
           RowsReady (viewOf day .running) k new → DecidesRows day c supply scheduled new r
       unfolding crowding
       rows-laid h k g laid ready =
@@ -140,18 +140,21 @@ module _ (day : Day) (c : ConstraintRow) (supply : List SupplyRow) (scheduled : 
           })
 
 -- schedules, for a market that is filed
-module _ (day : Day) (c : ConstraintRow) (supply : List SupplyRow) (h : List ℕ) (new : List ℕ) (r : Deciding) where
-  pub schedules-refused :
-      (e : Refusal) → firstOf (besideRefusals (c .hour) (units supply) h) ≡ some e → r ≡ Refused e → DecidesMarket day c supply h new r
-  schedules-refused e is g =
-      decides-refused _ _ _ _ new e r (first-of-part (besideRefusals (c .hour) (units supply) h) _ e is) g
+module _
+    (day : Day) (c : ConstraintRow) (supply : List SupplyRow) (waiting : Option Refusal) (h : List ℕ) (new : List ℕ) (r : Deciding)
+  where
+    pub schedules-refused :
+        (e : Refusal) → firstOf (besideRefusals (waiting ∷ []) (c .hour) (units supply) h) ≡ some e → r ≡ Refused e →
+        DecidesMarket day c supply waiting h new r
+    schedules-refused e is g =
+        decides-refused _ _ _ _ new e r (first-of-part (besideRefusals (waiting ∷ []) (c .hour) (units supply) h) _ e is) g
 
-  pub schedules-decided :
-      firstOf (besideRefusals (c .hour) (units supply) h) ≡ none → (rows : List ScheduleRow) → rows ≡ schedulesOf h →
-      DecidesRows day c supply rows new r → DecidesMarket day c supply h new r
-  schedules-decided ok rows is decides =
-      rw (first-of-rest (besideRefusals (c .hour) (units supply) h) (rowsRefusals (viewOf day) c supply (schedulesOf h)) ok)
-      (rw is at decides)
+    pub schedules-decided :
+        firstOf (besideRefusals (waiting ∷ []) (c .hour) (units supply) h) ≡ none → (rows : List ScheduleRow) → rows ≡ schedulesOf h →
+        DecidesRows day c supply rows new r → DecidesMarket day c supply waiting h new r
+    schedules-decided ok rows is decides =
+        rw (first-of-rest (besideRefusals (waiting ∷ []) (c .hour) (units supply) h) (rowsRefusals (viewOf day) c supply (schedulesOf h)) ok)
+        (rw is at decides)
 
 -- all files
 module _ (day : Day) (f : Files) (new : List ℕ) (r : Deciding) where
@@ -169,8 +172,9 @@ module _ (day : Day) (f : Files) (new : List ℕ) (r : Deciding) where
 
     pub market-decided :
         firstOf (marketRefusals (f .constraint) (f .supply)) ≡ none → (c : ConstraintRow) → c ≡ constraintOf (f .constraint) →
-        (supply : List SupplyRow) → supply ≡ supplyOf (f .supply) → DecidesMarket day c supply (f .schedules) new r → DecidesStudy day f new r
-    unfolding decisionRefusal decisionRefusals filingRefusals studyRows
+        (supply : List SupplyRow) → supply ≡ supplyOf (f .supply) → DecidesGroups day c supply (f .schedules) (f .parents) new r →
+        DecidesStudy day f new r
+    unfolding decisionRefusal decisionRefusals filingRefusals studyRows groupsOf
     market-decided ok c constraint supply is decides =
         rw (
           first-of-later _ _ (unless-kept (dayFormed (viewOf day)) 24 formed),

@@ -1,8 +1,8 @@
 -- From files that are filed, and the cells that were laid down, to what deciding their rows asks. Assumes nothing.
 use Prim.Native.Nat.{ℕ, _≤_, _<_}
 use mathlib.Core.Path.{_≡_, refl, sym, _∙_}
-use mathlib.Core.List.{List}
-use mathlib.Core.Option.{none, some}
+use mathlib.Core.List.{List, [], _∷_}
+use mathlib.Core.Option.{Option, none, some}
 use native.Mathlib.Omega.{arith}
 use lib.ListN.{length}
 use Rattle.base.specs.Search.{firstOf}
@@ -35,7 +35,7 @@ use Rattle.decision.specs.Standing.{MarketCells}
 use Rattle.decision.specs.Units.{UnitsOf}
 
 -- as many parties as suppliers, since a row counts for its supplier
-parties-suppliers : (rows : List SupplyRow) → parties rows ≡ suppliers rows
+pub parties-suppliers : (rows : List SupplyRow) → parties rows ≡ suppliers rows
 unfolding parties suppliers party
 parties-suppliers rows = refl
 
@@ -80,16 +80,17 @@ module _ (c s supply us : List ℕ) {q : MarketFiling} (filed : MarketFiled c s 
 
 -- the cells of schedules that are filed
 module _
-    (hour : ℕ) (us h cells links : List ℕ) {p : Reading} (filed : SchedulesFiled (besideRefusals hour us h) h cells links p)
+    (w : Option Refusal) (hour : ℕ) (us h cells links : List ℕ) {p : Reading}
+    (filed : SchedulesFiled (besideRefusals (w ∷ []) hour us h) h cells links p)
   where
-    pub schedules-refuse : (x : Refusal) → p ≡ NotRead x → firstOf (besideRefusals hour us h) ≡ some x
+    pub schedules-refuse : (x : Refusal) → p ≡ NotRead x → firstOf (besideRefusals (w ∷ []) hour us h) ≡ some x
     schedules-refuse x f = refused-answered _ (length (schedulesOf h)) (sym (filed .answers) ∙ f)
 
     module _ (n : ℕ) (f : p ≡ RowsRead n) where
-      rows-told : (firstOf (besideRefusals hour us h) ≡ none) × (n ≡ length (schedulesOf h))
+      rows-told : (firstOf (besideRefusals (w ∷ []) hour us h) ≡ none) × (n ≡ length (schedulesOf h))
       rows-told = rows-answered _ (length (schedulesOf h)) (sym (filed .answers) ∙ f)
 
-      pub schedules-none : firstOf (besideRefusals hour us h) ≡ none
+      pub schedules-none : firstOf (besideRefusals (w ∷ []) hour us h) ≡ none
       schedules-none = rows-told .0
 
       pub schedules-rows : scheduleRows n cells ≡ schedulesOf h

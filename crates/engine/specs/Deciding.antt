@@ -2,7 +2,7 @@
 -- Nothing is written to a file, and no day changes. Assumes nothing.
 use Prim.Native.Nat.{ℕ, _*_, _≤_}
 use mathlib.Core.Path.{_≡_}
-use mathlib.Core.List.{List, map, _++_}
+use mathlib.Core.List.{List, [], _∷_, _++_, map}
 use mathlib.Core.Option.{Option, none, some}
 use lib.ListN.{length}
 use Rattle.base.specs.Rising.{RisingFrom}
@@ -13,7 +13,9 @@ use Rattle.tables.specs.declared.files.Refusal.{Refusal}
 use Rattle.cells.specs.Views.{AnswerRow, answerRows, answerWidth}
 use Rattle.supply.specs.Supply.{mostUnits, units}
 use Rattle.answer.specs.Rows.{Lettered}
-use Rattle.filing.specs.Filing.{Files, constraintOf, schedulesOf, besideRefusals}
+use Rattle.filing.specs.Filing.{Files, constraintOf, schedulesOf, parentsOf, aloneRefusals, besideRefusals}
+use Rattle.affiliates.specs.Affiliates.{grouped}
+use Rattle.tables.specs.declared.files.File.the-variants.{Parents}
 use Rattle.judge.specs.Day.{RunningUnit, mostRunning, wouldRun}
 use Rattle.judge.specs.Decision.{decided}
 use Rattle.judge.specs.Study.{rowsRefusals, studyRows, decisionRefusal}
@@ -42,20 +44,32 @@ module _ (o : Option Refusal) (hour : ℕ) (rows : List AnswerRow) (running : Li
     pub refuses : (e : Refusal) → r ≡ Refused e → o ≡ some e
     pub decides : (h k : ℕ) → r ≡ Rows h k → Laid h k
 
--- deciding the rows of a study's files, deciding schedules for a market that is filed, and deciding all files
+-- deciding the rows of a study's files, deciding schedules for a market that is filed while another refusal waits for its turn,
+-- deciding them by the groups of parents, and deciding all files
 abbrev pub DecidesRows : Day → ConstraintRow → List SupplyRow → List ScheduleRow → List ℕ → Deciding → Type 0
 DecidesRows day c supply scheduled new r =
-    Decides (firstOf (rowsRefusals (viewOf day) c supply scheduled)) (c .hour) (decided c supply scheduled (viewOf day .running))
+    Decides (firstOf (rowsRefusals (viewOf day) c supply scheduled)) (c .hour) (decided c supply scheduled (viewOf day .running) supply)
     (viewOf day .running)
     new
     r
 
-abbrev pub DecidesMarket : Day → ConstraintRow → List SupplyRow → List ℕ → List ℕ → Deciding → Type 0
-DecidesMarket day c supply h new r =
+abbrev pub DecidesMarket : Day → ConstraintRow → List SupplyRow → Option Refusal → List ℕ → List ℕ → Deciding → Type 0
+DecidesMarket day c supply waiting h new r =
     Decides
-    (firstOf (besideRefusals (c .hour) (units supply) h ++ rowsRefusals (viewOf day) c supply (schedulesOf h)))
+    (firstOf (besideRefusals (waiting ∷ []) (c .hour) (units supply) h ++ rowsRefusals (viewOf day) c supply (schedulesOf h)))
     (c .hour)
-    (decided c supply (schedulesOf h) (viewOf day .running))
+    (decided c supply (schedulesOf h) (viewOf day .running) supply)
+    (viewOf day .running)
+    new
+    r
+
+abbrev pub DecidesGroups : Day → ConstraintRow → List SupplyRow → List ℕ → List ℕ → List ℕ → Deciding → Type 0
+DecidesGroups day c filed h p new r =
+    Decides
+    (firstOf
+    (besideRefusals (aloneRefusals Parents p) (c .hour) (units filed) h ++ rowsRefusals (viewOf day) c filed (schedulesOf h)))
+    (c .hour)
+    (decided c (grouped (parentsOf p) filed) (schedulesOf h) (viewOf day .running) filed)
     (viewOf day .running)
     new
     r

@@ -12,6 +12,7 @@ ghost use Rattle.cells.specs.Views.{answerWidth};
 ghost use Rattle.links.specs.Links.{RowsLinked};
 ghost use Rattle.supply.specs.Supply.{mostUnits};
 ghost use Rattle.filing.specs.Filing.{files};
+ghost use Rattle.filing.specs.Rules.{refusalIn};
 ghost use Rattle.commitment.specs.Ranges.{ScheduleCells};
 ghost use Rattle.decision.specs.Standing.{MarketCells};
 ghost use Rattle.decision.specs.Units.{UnitsOf};
@@ -19,7 +20,7 @@ ghost use Rattle.judge.specs.Day.{dayFormed, stateRefused};
 ghost use Rattle.running.specs.Forming.{unitsFormed};
 ghost use Rattle.running.specs.View.{unitsOf};
 ghost use Rattle.engine.specs.View.{viewOf};
-ghost use Rattle.engine.specs.Deciding.{DecidesStudy, DecidesMarket, DecidesRows};
+ghost use Rattle.engine.specs.Deciding.{DecidesStudy, DecidesGroups, DecidesMarket, DecidesRows};
 use crate::day::Day;
 use crate::refusals::EARLIER_HOUR;
 use crate::refusals::ILL_FORMED;
@@ -27,11 +28,16 @@ use crate::refusals::NO_COST_SCHEDULE;
 use crate::refusals::TOO_MANY_RUNNING;
 use cells::Sizes;
 use decision::Decided;
+use decision::list_suppliers;
+use decision::name_suppliers;
 use filing::Market;
 use filing::MarketFiling;
 use filing::SCHEDULE_CELLS;
 use filing::SUPPLY_CELLS;
 use filing::UNITS;
+use filing::file_market;
+use filing::file_parents;
+use filing::file_schedules;
 use tables::ConstraintRow;
 use tables::File;
 use tables::Reading;
@@ -50,13 +56,14 @@ impl Day {
         constraint: &[u8],
         supply: &[u8],
         schedules: &[u8],
+        parents: &[u8],
         rows: &mut [u64],
     ) -> Deciding
         requires { ⌜ mostUnits * answerWidth ≤ length (now rows) ⌝ }
-        ensures { λ r. ⌜ DecidesStudy self (files (now (constraint .entry)) (now (supply .entry)) (now (schedules .entry))) (now (rows .exit)) r ⌝ }
+        ensures { λ r. ⌜ DecidesStudy self (files (now (constraint .entry)) (now (supply .entry)) (now (schedules .entry)) (now (parents .entry))) (now (rows .exit)) r ⌝ }
     {
         if self.is_formed() {
-            self.decide_files(constraint, supply, schedules, rows)
+            self.decide_files(constraint, supply, schedules, parents, rows)
         } else {
             refused_by_state(ILL_FORMED)
         }
@@ -68,27 +75,60 @@ impl Day {
         constraint: &[u8],
         supply: &[u8],
         schedules: &[u8],
+        parents: &[u8],
         rows: &mut [u64],
     ) -> Deciding
         requires { ⌜ dayFormed (viewOf self) ≡ true ⌝ }
         requires { ⌜ mostUnits * answerWidth ≤ length (now rows) ⌝ }
-        ensures { λ r. ⌜ DecidesStudy self (files (now (constraint .entry)) (now (supply .entry)) (now (schedules .entry))) (now (rows .exit)) r ⌝ }
+        ensures { λ r. ⌜ DecidesStudy self (files (now (constraint .entry)) (now (supply .entry)) (now (schedules .entry)) (now (parents .entry))) (now (rows .exit)) r ⌝ }
     {
         let mut supply_cells = [0u64; SUPPLY_CELLS];
         let mut units = [0u64; UNITS];
-        let filing = filing::file_market(constraint, supply, &mut supply_cells, &mut units);
+        let filing = file_market(constraint, supply, &mut supply_cells, &mut units);
         match filing {
             MarketFiling::Refused(refusal) => Deciding::Refused(refusal),
             MarketFiling::Filed(market) => {
-                self.decide_market(market, &supply_cells, &units, schedules, rows)
+                self.decide_groups(market, &mut supply_cells, &units, schedules, parents, rows)
             }
         }
     }
 
-    // Then schedules, for the hour and the units of a market that is filed.
+    // Then the market that is filed, by the groups of parents where there are any. The answer shows the
+    // suppliers of the supply file.
+    fn decide_groups(
+        self,
+        market: Market,
+        supply: &mut [u64],
+        units: &[u64],
+        schedules: &[u8],
+        parents: &[u8],
+        rows: &mut [u64],
+    ) -> Deciding
+        requires { ⌜ unitsFormed (unitsOf (self .units)) ≡ true ⌝ }
+        requires { ⌜ MarketCells (market .constraint) (market .rows) (now supply) ⌝ }
+        requires { ⌜ UnitsOf (market .units) (supplyRows (market .rows) (now supply)) (now units) ⌝ }
+        requires { ⌜ mostUnits * answerWidth ≤ length (now rows) ⌝ }
+        ensures { λ r. ⌜ DecidesGroups self (market .constraint) (supplyRows (market .rows) (now (supply .entry))) (now (schedules .entry)) (now (parents .entry)) (now (rows .exit)) r ⌝ }
+    {
+        if parents.len() == 0 {
+            let no_parents = Reading::Rows(0);
+            return self.decide_market(market, no_parents, supply, units, schedules, rows);
+        }
+        let mut suppliers = [0u64; UNITS];
+        let count = market.units;
+        list_suppliers(supply, market.rows, units, count, &mut suppliers);
+        let reading = file_parents(parents, supply, market.rows);
+        let deciding = self.decide_market(market, reading, supply, units, schedules, rows);
+        name_suppliers(&suppliers, count, rows);
+        deciding
+    }
+
+    // Then schedules, for the hour and the units of a market that is filed. What reading parents answered
+    // waits for its turn.
     fn decide_market(
         self,
         market: Market,
+        parents: Reading,
         supply: &[u64],
         units: &[u64],
         schedules: &[u8],
@@ -98,11 +138,11 @@ impl Day {
         requires { ⌜ MarketCells (market .constraint) (market .rows) (now supply) ⌝ }
         requires { ⌜ UnitsOf (market .units) (supplyRows (market .rows) (now supply)) (now units) ⌝ }
         requires { ⌜ mostUnits * answerWidth ≤ length (now rows) ⌝ }
-        ensures { λ r. ⌜ DecidesMarket self (market .constraint) (supplyRows (market .rows) (now (supply .entry))) (now (schedules .entry)) (now (rows .exit)) r ⌝ }
+        ensures { λ r. ⌜ DecidesMarket self (market .constraint) (supplyRows (market .rows) (now (supply .entry))) (refusalIn parents) (now (schedules .entry)) (now (rows .exit)) r ⌝ }
     {
         let mut cells = [0u64; SCHEDULE_CELLS];
         let mut links = [0u16; links::LENGTH];
-        let reading = filing::file_schedules(market, schedules, units, &mut cells, &mut links);
+        let reading = file_schedules(market, parents, schedules, units, &mut cells, &mut links);
         match reading {
             Reading::Refused(refusal) => Deciding::Refused(refusal),
             Reading::Rows(count) => {

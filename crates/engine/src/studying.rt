@@ -1,4 +1,4 @@
-// The study: three files, the day by value and a lent buffer. Deciding the units, writing the answer
+// The study: its files, the day by value and a lent buffer. Deciding the units, writing the answer
 // and putting the choices into the day are three steps; nothing is written before the last refusal is
 // passed. Assumes nothing of the files, the day or the buffer.
 ghost use mathlib.Core.Path.{_≡_};
@@ -29,19 +29,21 @@ pub struct Studied {
 }
 
 impl Day {
-    // Studies the three files, and writes the answer file from the start of the buffer.
+    // Studies the files, and writes the answer file from the start of the buffer. Parents of no bytes are
+    // none.
     pub fn study(
         self,
         constraint: &[u8],
         supply: &[u8],
         schedules: &[u8],
+        parents: &[u8],
         answer: &mut [u8],
     ) -> Studied
-        ensures { λ r. ⌜ Studies self (files (now (constraint .entry)) (now (supply .entry)) (now (schedules .entry))) (now (answer .entry)) (now (answer .exit)) r ⌝ }
-        ensures { λ r. ⌜ AnswersRight self (files (now (constraint .entry)) (now (supply .entry)) (now (schedules .entry))) (now (answer .exit)) r ⌝ }
+        ensures { λ r. ⌜ Studies self (files (now (constraint .entry)) (now (supply .entry)) (now (schedules .entry)) (now (parents .entry))) (now (answer .entry)) (now (answer .exit)) r ⌝ }
+        ensures { λ r. ⌜ AnswersRight self (files (now (constraint .entry)) (now (supply .entry)) (now (schedules .entry)) (now (parents .entry))) (now (answer .exit)) r ⌝ }
     {
         let mut rows = [0u64; answer::CELLS];
-        let deciding = self.decide(constraint, supply, schedules, &mut rows);
+        let deciding = self.decide(constraint, supply, schedules, parents, &mut rows);
         match deciding {
             Deciding::Refused(refusal) => self.refuse_study(refusal),
             Deciding::Rows(hour, count) => self.answer_rows(hour, &rows, count, answer),

@@ -1,4 +1,4 @@
--- The three files together, from what filing the market and then schedules answered: the first refusal of all, or the rows
+-- All files together, from what filing the market and then schedules answered: the first refusal of all, or the rows
 -- that stand in the runs. Assumes nothing.
 use Prim.Native.Nat.{ℕ, _<_}
 use mathlib.Core.Path.{_≡_, refl, sym, _∙_}
@@ -9,7 +9,7 @@ use lib.ListN.{length, take}
 use Rattle.base.specs.Search.{firstOf}
 use Rattle.base.proofs.Searches.{first-of-none, option-map-none}
 use Rattle.tables.specs.Reading.{refused, refusal}
-use Rattle.tables.specs.declared.files.File.the-variants.{Constraint, Supply}
+use Rattle.tables.specs.declared.files.File.the-variants.{Constraint, Supply, Parents}
 use Rattle.tables.specs.declared.files.Refusal.{Refusal}
 use Rattle.supply.specs.Supply.{mostUnits, units, crowded}
 use Rattle.filing.specs.Filed.{marketOf, marketUnless, MarketFiled, MarketFits}
@@ -30,9 +30,9 @@ refusal-answered (some y) c s e = cc
 
 module _ (c s supply us : List ℕ) {q : MarketFiling} (market : MarketFiled c s supply us q) where
   -- the market is refused
-  pub market-refused : (h : List ℕ) {x : Refusal} → q ≡ Refused x → filingRefusal (files c s h) ≡ some x
+  pub market-refused : (h p : List ℕ) {x : Refusal} → q ≡ Refused x → filingRefusal (files c s h p) ≡ some x
   unfolding filingRefusal filingRefusals
-  market-refused h {x} e =
+  market-refused h p {x} e =
       first-of-part (marketRefusals c s) _ x
       (refusal-answered (firstOf (marketRefusals c s)) c s (sym (market .answers) ∙ e))
 
@@ -59,8 +59,9 @@ module _ (c s supply us : List ℕ) {q : MarketFiling} (market : MarketFiled c s
     listed : take (m .units) us ≡ units (supplyOf s)
     listed = rw (told .1) (market .kept (told .0) .listed)
 
-    -- the first refusal is that of schedules
+    -- the first refusal is that of what comes behind
     pub schedules-first :
-        (h : List ℕ) → filingRefusal (files c s h) ≡ firstOf (besideRefusals (m .constraint .hour) (take (m .units) us) h)
+        (h p : List ℕ) →
+        filingRefusal (files c s h p) ≡ firstOf (besideRefusals (aloneRefusals Parents p) (m .constraint .hour) (take (m .units) us) h)
     unfolding filingRefusal filingRefusals
-    schedules-first h = first-of-rest (marketRefusals c s) _ (told .0) ∙ rw (listed, told .1)
+    schedules-first h p = first-of-rest (marketRefusals c s) _ (told .0) ∙ rw (listed, told .1)

@@ -8,16 +8,16 @@ use lib.ListN.{length, take, drop, length-map}
 use lib.Seq.{getD-take}
 use Rattle.tables.specs.Laying.{FileRead}
 use Rattle.tables.specs.Reading.{rows, refusal, reading, laid}
-use Rattle.tables.specs.Rows.{constraintRow, supplyRow, scheduleRow, rowsOf, supplyRows, scheduleRows}
-use Rattle.tables.specs.Table.{width, table, constraintColumns, supplyColumns, schedulesColumns}
+use Rattle.tables.specs.Rows.{constraintRow, supplyRow, scheduleRow, parentRow, rowsOf, supplyRows, scheduleRows, parentRows}
+use Rattle.tables.specs.Table.{width, table, constraintColumns, supplyColumns, schedulesColumns, parentsColumns}
 use Rattle.tables.specs.Values.{cells}
 use Rattle.tables.specs.declared.files.File.{File}
-use Rattle.tables.specs.declared.files.File.the-variants.{Constraint, Supply, Schedules}
+use Rattle.tables.specs.declared.files.File.the-variants.{Constraint, Supply, Schedules, Parents}
 use Rattle.tables.specs.declared.files.Refusal.{Refusal}
 use Rattle.tables.specs.declared.files.Reading.{Reading}
 use Rattle.tables.specs.declared.files.Reading.the-variants.{Rows as RowsRead, Refused as NotRead}
 use Rattle.tables.proofs.Accepted.{accepted}
-use Rattle.filing.specs.Filing.{rowCells, constraintOf, supplyOf, schedulesOf}
+use Rattle.filing.specs.Filing.{rowCells, constraintOf, supplyOf, schedulesOf, orHeader, parentsOf}
 
 -- what reading a file answered
 module _ (f : File) (s : List ℕ) where
@@ -55,6 +55,10 @@ pub schedules-count : (h : List ℕ) → length (schedulesOf h) ≡ length (rows
 unfolding schedulesOf
 schedules-count h = length-map (rowCells Schedules h) scheduleRow ∙ rows-count Schedules h
 
+pub parents-count : (p : List ℕ) → length (parentsOf p) ≡ length (rows (orHeader Parents p))
+unfolding parentsOf
+parents-count p = length-map (rowCells Parents (orHeader Parents p)) parentRow ∙ rows-count Parents (orHeader Parents p)
+
 -- the rows that stand in the lent cells
 viewed :
     (f : File) (s old new : List ℕ) (r : Reading) → refusal f s ≡ none → FileRead f s old new r →
@@ -70,6 +74,13 @@ module _ (s old new : List ℕ) (r : Reading) where
   pub schedule-rows : refusal Schedules s ≡ none → FileRead Schedules s old new r → scheduleRows (length (schedulesOf s)) new ≡ schedulesOf s
   unfolding scheduleRows schedulesOf width schedulesColumns
   schedule-rows e w = rw (schedules-count s) (ap (map scheduleRow) (viewed Schedules s old new r e w))
+
+  -- of a file of some bytes, which isn't taken for its header
+  pub parent-rows :
+      orHeader Parents s ≡ s → refusal Parents s ≡ none → FileRead Parents s old new r →
+      parentRows (length (parentsOf s)) new ≡ parentsOf s
+  unfolding parentRows parentsOf width parentsColumns
+  parent-rows same e w = rw (parents-count s, same) (ap (map parentRow) (viewed Parents s old new r e w))
 
   one-row : refusal Constraint s ≡ none → length (rows s) ≡ 1
   one-row e = omega (arith, accepted Constraint s e .fewest, accepted Constraint s e .most)

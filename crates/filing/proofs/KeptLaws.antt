@@ -12,16 +12,17 @@ use Rattle.base.specs.Rising.{inserted}
 use Rattle.base.specs.Search.{All, all-none, all-more}
 use Rattle.base.proofs.Searches.{first-of-none, option-map-none}
 use Rattle.base.proofs.Tests.{or-fst, or-snd}
-use Rattle.tables.specs.Ranges.{PermittedCells, PermittedConstraint, PermittedSupply, PermittedSchedule}
+use Rattle.tables.specs.Ranges.{PermittedCells, PermittedConstraint, PermittedSupply, PermittedSchedule, PermittedParent}
 use Rattle.tables.specs.Reading.{refused, refusal}
-use Rattle.tables.specs.Rows.{SupplyRow, constraintRow, supplyRow, scheduleRow}
+use Rattle.tables.specs.Rows.{SupplyRow, constraintRow, supplyRow, scheduleRow, parentRow}
 use Rattle.tables.specs.Table.{table, constraintColumns}
 use Rattle.tables.specs.declared.files.File.{File}
-use Rattle.tables.specs.declared.files.File.the-variants.{Constraint, Supply, Schedules}
+use Rattle.tables.specs.declared.files.File.the-variants.{Constraint, Supply, Schedules, Parents}
 use Rattle.tables.proofs.Accepted.{accepted}
 use Rattle.tables.proofs.Permitted as Permitted
-use Rattle.filing.specs.Filing.{Files, rowCells, constraintOf, supplyOf, schedulesOf, aloneRefusals, marketRefusals, schedulesRefusals, unitsRefusals, besideRefusals, filingRefusals, filingRefusal}
+use Rattle.filing.specs.Filing.{Files, rowCells, constraintOf, supplyOf, schedulesOf, orHeader, parentsOf, affiliateRefusals, aloneRefusals, marketRefusals, schedulesRefusals, unitsRefusals, besideRefusals, filingRefusals, filingRefusal}
 use Rattle.filing.specs.Kept.{Kept}
+use Rattle.affiliates.specs.Affiliates.{givenTwice, ringed}
 use Rattle.numbers.specs.Numbers.{numbersFrom, numbersOf}
 use Rattle.schedules.specs.Schedules.{schedulesAtOdds, strange, unscheduled}
 use Rattle.runs.specs.Runs.{lacking}
@@ -55,6 +56,10 @@ supply-kept s e = all-mapped supplyRow (λ (x : List ℕ) p. Permitted.supply-pe
 pub schedules-kept : (h : List ℕ) → refusal Schedules h ≡ none → All PermittedSchedule (schedulesOf h)
 unfolding schedulesOf
 schedules-kept h e = all-mapped scheduleRow (λ (x : List ℕ) p. Permitted.schedule-permitted p) (permitted Schedules h e)
+
+pub parents-kept : (p : List ℕ) → refusal Parents (orHeader Parents p) ≡ none → All PermittedParent (parentsOf p)
+unfolding parentsOf
+parents-kept p e = all-mapped parentRow (λ (x : List ℕ) q. Permitted.parent-permitted q) (permitted Parents (orHeader Parents p) e)
 
 -- units and suppliers that crowd no file
 record Few (us ss : List ℕ) : Type 0 where
@@ -102,7 +107,7 @@ pub suppliers-few : (rs : List SupplyRow) → crowded rs ≡ none → length (su
 suppliers-few rs e = few rs e .few-suppliers
 
 pub kept : (f : Files) → filingRefusal f ≡ none → Kept f
-unfolding aloneRefusals marketRefusals schedulesRefusals unitsRefusals besideRefusals filingRefusals filingRefusal
+unfolding affiliateRefusals aloneRefusals marketRefusals schedulesRefusals unitsRefusals besideRefusals filingRefusals filingRefusal
 kept f e =
     let c = f .constraint in
     let s = f .supply in
@@ -116,16 +121,21 @@ kept f e =
     let d = first-of-none (refusal Schedules h) _ (o6 .1) in
     let p6 = first-of-none _ _ (d .1) in
     let p7 = first-of-none _ _ (p6 .1) in
-    let p8 = first-of-none _ _ (p7 .1) in
+    let g = first-of-none (refusal Parents (orHeader Parents (f .parents))) _ (p7 .1) in
+    let g35 = first-of-none _ _ (g .1) in
+    let g36 = first-of-none _ _ (g35 .1) in
+    let p8 = first-of-none _ _ (g36 .1) in
     let p9 = first-of-none _ [] (p8 .1) in
     let uncrowded = option-map-none (refused 5 Supply) (crowded (supplyOf s)) (o5 .0) in
     record {
       constraint-read = a .0;
       supply-read = b .0;
       schedules-read = d .0;
+      parents-read = g .0;
       constraint-permitted = constraint-kept c (a .0);
       supply-permitted = supply-kept s (b .0);
       schedules-permitted = schedules-kept h (d .0);
+      parents-permitted = parents-kept (f .parents) (g .0);
       supply-few = rw (supply-count s) (accepted Supply s (b .0) .most);
       schedules-few = rw (schedules-count h) (accepted Schedules h (d .0) .most);
       uncrowded = uncrowded;
@@ -134,6 +144,8 @@ kept f e =
       supply-agrees = option-map-none (refused 6 Supply) (supplyAtOdds (supplyOf s)) (o6 .0);
       schedules-agree = option-map-none (refused 6 Schedules) (schedulesAtOdds rs) (p6 .0);
       known = option-map-none (refused 7 Schedules) (strange us rs) (p7 .0);
+      given-once = option-map-none (refused 35 Parents) (givenTwice (parentsOf (f .parents))) (g35 .0);
+      unringed = option-map-none (refused 36 Parents) (ringed (parentsOf (f .parents))) (g36 .0);
       scheduled = option-map-none (refused 8 Schedules) (unscheduled us rs) (p8 .0);
       whole = option-map-none (refused 9 Schedules) (lacking (constraintOf c .hour) us rs) (p9 .0);
     }

@@ -67,31 +67,42 @@ pub refused-answered : (o : Option Refusal) (n : ℕ) {x : Refusal} → rowsUnle
 refused-answered none n e = let z : _≡_ {A = ℕ} 0 1 = cc in absurd (omega arith)
 refused-answered (some y) n e = cc
 
--- the rules one after the other
+-- 8, then 9
 module _
     (hour : ℕ) (us : List ℕ) (rs : List ScheduleRow) (n : ℕ) {p : Reading}
+    (first : p ≡ rowsUnless (Option·map (refused 8 Schedules) (unscheduled us rs)) n)
+  where
+    pub eighth-broken : {x : Refusal} → p ≡ NotRead x → NotRead x ≡ rowsUnless (firstOf (unitsRefusals hour us rs)) n
+    unfolding unitsRefusals
+    eighth-broken e = rw (first-of-here _ _ _ (refused-answered _ n (sym first ∙ e)))
+
+    pub ninth-held :
+        {m : ℕ} → p ≡ RowsRead m → {r : Reading} → r ≡ rowsUnless (Option·map (refused 9 Schedules) (lacking hour us rs)) n →
+        r ≡ rowsUnless (firstOf (unitsRefusals hour us rs)) n
+    unfolding unitsRefusals
+    ninth-held e second =
+        let eighth = Option·map (refused 8 Schedules) (unscheduled us rs) in
+        let ninth = Option·map (refused 9 Schedules) (lacking hour us rs) in
+        second ∙ rw (first-of-later eighth (ninth ∷ []) (rows-answered _ n (sym first ∙ e) .0) ∙ first-of-one ninth)
+
+-- 7, then what waits, then these
+module _
+    (waiting : Option Refusal) (hour : ℕ) (us : List ℕ) (rs : List ScheduleRow) (n : ℕ) {p : Reading}
     (first : p ≡ rowsUnless (Option·map (refused 7 Schedules) (strange us rs)) n)
   where
-    pub seventh-broken : {x : Refusal} → p ≡ NotRead x → NotRead x ≡ rowsUnless (firstOf (heldRefusals hour us rs)) n
+    pub seventh-broken : {x : Refusal} → p ≡ NotRead x → NotRead x ≡ rowsUnless (firstOf (heldRefusals waiting hour us rs)) n
     unfolding heldRefusals
     seventh-broken e = rw (first-of-here _ _ _ (refused-answered _ n (sym first ∙ e)))
 
-    module _
-        {m : ℕ} (e : p ≡ RowsRead m) {q : Reading}
-        (second : q ≡ rowsUnless (Option·map (refused 8 Schedules) (unscheduled us rs)) n)
-      where
-        eighth-first : firstOf (heldRefusals hour us rs) ≡ firstOf (unitsRefusals hour us rs)
-        unfolding heldRefusals
-        eighth-first = first-of-later _ _ (rows-answered _ n (sym first ∙ e) .0)
+    module _ {m : ℕ} (e : p ≡ RowsRead m) where
+      waiting-first : firstOf (heldRefusals waiting hour us rs) ≡ firstOf (waiting ∷ unitsRefusals hour us rs)
+      unfolding heldRefusals
+      waiting-first = first-of-later _ _ (rows-answered _ n (sym first ∙ e) .0)
 
-        pub eighth-broken : {x : Refusal} → q ≡ NotRead x → NotRead x ≡ rowsUnless (firstOf (heldRefusals hour us rs)) n
-        unfolding unitsRefusals
-        eighth-broken f = rw (eighth-first ∙ first-of-here _ _ _ (refused-answered _ n (sym second ∙ f)))
+      pub waited : {x : Refusal} → waiting ≡ some x → NotRead x ≡ rowsUnless (firstOf (heldRefusals waiting hour us rs)) n
+      waited w = rw (waiting-first ∙ first-of-here _ _ _ w)
 
-        pub ninth-held :
-            {k : ℕ} → q ≡ RowsRead k → {r : Reading} → r ≡ rowsUnless (Option·map (refused 9 Schedules) (lacking hour us rs)) n →
-            r ≡ rowsUnless (firstOf (heldRefusals hour us rs)) n
-        unfolding unitsRefusals
-        ninth-held f third =
-            third
-            ∙ rw (eighth-first ∙ first-of-later _ _ (rows-answered _ n (sym second ∙ f) .0) ∙ first-of-one _)
+      pub units-held :
+          waiting ≡ none → {r : Reading} → r ≡ rowsUnless (firstOf (unitsRefusals hour us rs)) n →
+          r ≡ rowsUnless (firstOf (heldRefusals waiting hour us rs)) n
+      units-held w held = held ∙ rw (waiting-first ∙ first-of-later _ _ w)

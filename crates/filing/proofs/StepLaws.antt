@@ -2,7 +2,7 @@
 -- Assumes nothing.
 use Prim.Native.Nat.{ℕ, _*_, _≤_}
 use mathlib.Core.Path.{_≡_, refl, sym, _∙_}
-use mathlib.Core.List.{List, [], _++_, append-assoc}
+use mathlib.Core.List.{List, [], _∷_, _++_, append-assoc}
 use mathlib.Core.Option.{Option, none, some}
 use native.Mathlib.Omega.{arith}
 use lib.ListN.{length}
@@ -94,15 +94,17 @@ module _ (c s cells us : List ℕ) {q : ConstraintFiling} (filed : q ≡ constra
 
 -- schedules beside a market
 module _ (h cells links : List ℕ) {q : Reading} (read : SchedulesFiled (aloneRefusals Schedules h) h cells links q) where
-  beside-parts : (hour : ℕ) (us : List ℕ) → besideRefusals hour us h ≡ aloneRefusals Schedules h ++ heldRefusals hour us (schedulesOf h)
+  beside-parts :
+      (w : Option Refusal) (hour : ℕ) (us : List ℕ) →
+      besideRefusals (w ∷ []) hour us h ≡ aloneRefusals Schedules h ++ heldRefusals w hour us (schedulesOf h)
   unfolding besideRefusals schedulesRefusals heldRefusals
-  beside-parts hour us = append-assoc (aloneRefusals Schedules h) _ _
+  beside-parts w hour us = append-assoc (aloneRefusals Schedules h) _ _
 
   pub beside-unread :
-      (hour : ℕ) (us : List ℕ) {x : Refusal} → q ≡ NotRead x → SchedulesFiled (besideRefusals hour us h) h cells links (NotRead x)
-  beside-unread hour us {x} e =
+      (w : Option Refusal) (hour : ℕ) (us : List ℕ) {x : Refusal} → q ≡ NotRead x → SchedulesFiled (besideRefusals (w ∷ []) hour us h) h cells links (NotRead x)
+  beside-unread w hour us {x} e =
       let alone = refused-answered (firstOf (aloneRefusals Schedules h)) _ (sym (read .answers) ∙ e) in
-      let first : firstOf (besideRefusals hour us h) ≡ some x = rw (beside-parts hour us) (first-of-part (aloneRefusals Schedules h) _ x alone) in
+      let first : firstOf (besideRefusals (w ∷ []) hour us h) ≡ some x = rw (beside-parts w hour us) (first-of-part (aloneRefusals Schedules h) _ x alone) in
       record { answers = rw first; kept = λ z. some-none (sym first ∙ z) }
 
   module _ (n : ℕ) (e : q ≡ RowsRead n) where
@@ -133,11 +135,12 @@ module _ (h cells links : List ℕ) {q : Reading} (read : SchedulesFiled (aloneR
         }
 
     pub beside-filed :
-        (hour : ℕ) (us : List ℕ) (a : Reading) → a ≡ rowsUnless (firstOf (heldRefusals hour us (scheduleRows n cells))) n →
-        SchedulesFiled (besideRefusals hour us h) h cells links a
-    beside-filed hour us a held =
-        let first = first-of-rest (aloneRefusals Schedules h) (heldRefusals hour us (schedulesOf h)) (passed .0) in
+        (w : Option Refusal) (hour : ℕ) (us : List ℕ) (a : Reading) →
+        a ≡ rowsUnless (firstOf (heldRefusals w hour us (scheduleRows n cells))) n →
+        SchedulesFiled (besideRefusals (w ∷ []) hour us h) h cells links a
+    beside-filed w hour us a held =
+        let first = first-of-rest (aloneRefusals Schedules h) (heldRefusals w hour us (schedulesOf h)) (passed .0) in
         record {
-          answers = held ∙ rw (beside-parts hour us, first, rows-are, passed .1);
+          answers = held ∙ rw (beside-parts w hour us, first, rows-are, passed .1);
           kept = λ _. read .kept (passed .0);
         }

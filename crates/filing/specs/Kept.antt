@@ -1,15 +1,16 @@
--- What holds of three files that filing accepts: their rows within the ranges and as many as permitted, and every rule
+-- What holds of files that filing accepts: their rows within the ranges and as many as permitted, and every rule
 -- between rows kept. Assumes nothing.
 use Prim.Native.Nat.{_≤_}
 use mathlib.Core.Path.{_≡_}
 use mathlib.Core.Option.{none}
 use lib.ListN.{length}
 use Rattle.base.specs.Search.{All}
-use Rattle.tables.specs.Ranges.{PermittedConstraint, PermittedSupply, PermittedSchedule}
+use Rattle.tables.specs.Ranges.{PermittedConstraint, PermittedSupply, PermittedSchedule, PermittedParent}
 use Rattle.tables.specs.Reading.{refusal}
 use Rattle.tables.specs.Table.{table}
-use Rattle.tables.specs.declared.files.File.the-variants.{Constraint, Supply, Schedules}
-use Rattle.filing.specs.Filing.{Files, constraintOf, supplyOf, schedulesOf}
+use Rattle.tables.specs.declared.files.File.the-variants.{Constraint, Supply, Schedules, Parents}
+use Rattle.filing.specs.Filing.{Files, constraintOf, supplyOf, schedulesOf, orHeader, parentsOf}
+use Rattle.affiliates.specs.Affiliates.{givenTwice, ringed}
 use Rattle.schedules.specs.Schedules.{schedulesAtOdds, strange, unscheduled}
 use Rattle.runs.specs.Runs.{lacking}
 use Rattle.supply.specs.Supply.{mostUnits, mostSuppliers, units, suppliers, crowded, supplyAtOdds}
@@ -19,9 +20,11 @@ pub record Kept (f : Files) : Type 0 where
   pub constraint-read : refusal Constraint (f .constraint) ≡ none
   pub supply-read : refusal Supply (f .supply) ≡ none
   pub schedules-read : refusal Schedules (f .schedules) ≡ none
+  pub parents-read : refusal Parents (orHeader Parents (f .parents)) ≡ none
   pub constraint-permitted : PermittedConstraint (constraintOf (f .constraint))
   pub supply-permitted : All PermittedSupply (supplyOf (f .supply))
   pub schedules-permitted : All PermittedSchedule (schedulesOf (f .schedules))
+  pub parents-permitted : All PermittedParent (parentsOf (f .parents))
   pub supply-few : length (supplyOf (f .supply)) ≤ table Supply .mostRows
   pub schedules-few : length (schedulesOf (f .schedules)) ≤ table Schedules .mostRows
   -- 5
@@ -33,6 +36,9 @@ pub record Kept (f : Files) : Type 0 where
   pub schedules-agree : schedulesAtOdds (schedulesOf (f .schedules)) ≡ none
   -- 7
   pub known : strange (units (supplyOf (f .supply))) (schedulesOf (f .schedules)) ≡ none
+  -- 35, 36
+  pub given-once : givenTwice (parentsOf (f .parents)) ≡ none
+  pub unringed : ringed (parentsOf (f .parents)) ≡ none
   -- 8
   pub scheduled : unscheduled (units (supplyOf (f .supply))) (schedulesOf (f .schedules)) ≡ none
   -- 9

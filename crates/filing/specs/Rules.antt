@@ -7,6 +7,8 @@ use lib.Dec.{eqb}
 use Rattle.tables.specs.Reading.{refused}
 use Rattle.tables.specs.Rows.{ScheduleRow}
 use Rattle.tables.specs.declared.files.File.the-variants.{Schedules}
+use Rattle.tables.specs.declared.files.Reading.{Reading}
+use Rattle.tables.specs.declared.files.Reading.the-variants.{Rows as RowsRead, Refused as NotRead}
 use Rattle.tables.specs.declared.files.Refusal.{Refusal}
 use Rattle.schedules.specs.Schedules.{strange, unscheduled}
 use Rattle.schedules.specs.declared.rows.Lowest.{Lowest}
@@ -36,6 +38,11 @@ atFault Strange hour us rs = strange us rs
 atFault Unscheduled hour us rs = unscheduled us rs
 atFault Lacking hour us rs = lacking hour us rs
 
--- all of them, of rows that were read
-unfoldable pub heldRefusals : ℕ → List ℕ → List ScheduleRow → List (Option Refusal)
-heldRefusals hour us rs = Option·map (refused 7 Schedules) (strange us rs) ∷ unitsRefusals hour us rs
+-- why a file was not read
+abbrev pub refusalIn : Reading → Option Refusal
+refusalIn (RowsRead n) = none
+refusalIn (NotRead r) = some r
+
+-- all of them, of rows that were read, where another file's refusal waits for its turn
+unfoldable pub heldRefusals : Option Refusal → ℕ → List ℕ → List ScheduleRow → List (Option Refusal)
+heldRefusals waiting hour us rs = Option·map (refused 7 Schedules) (strange us rs) ∷ waiting ∷ unitsRefusals hour us rs

@@ -1,9 +1,10 @@
 // The files of a study: each is read alone as far as refusal 6, constraint and supply together, and
-// schedules beside them. Assumes nothing of the bytes.
+// schedules beside them; parents turn supply into groups. Assumes nothing of the bytes.
 mod answers;
 mod constraint_file;
 mod lengths;
 mod market;
+mod parents_file;
 mod refusals;
 mod rules;
 mod schedules_file;
@@ -17,6 +18,7 @@ pub use lengths::UNITS;
 pub use market::Market;
 pub use market::MarketFiling;
 pub use market::file_market;
+pub use parents_file::file_parents;
 pub use schedules_file::file_schedules;
 pub use schedules_file::read_schedules;
 pub use supply_file::SupplyFiling;

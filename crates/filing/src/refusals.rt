@@ -19,6 +19,12 @@ pub const UNSCHEDULED: u64 = 8;
 // A schedule that lacks a needed hour.
 pub const LACKING: u64 = 9;
 
+// A supplier given two parents.
+pub const GIVEN_TWICE: u64 = 35;
+
+// A chain of parents that returns to its start.
+pub const RINGED: u64 = 36;
+
 pub fn refused(number: u64, file: File, place: u64) -> Refusal
     ensures { λ r. ⌜ r ≡ Reading·refused number file place ⌝ }
 {

@@ -1,5 +1,5 @@
-// The rules that schedule rows keep beside a market: refusals 7, 8 and 9. Assumes rows that refusals
-// 1 to 6 have passed.
+// The rules that schedule rows keep beside a market: refusals 7, 8 and 9, and what comes between.
+// Assumes rows that refusals 1 to 6 have passed.
 ghost use mathlib.Core.Path.{_≡_};
 ghost use mathlib.Core.Option.{Option·map};
 ghost use Prim.Native.Nat.{_*_, _≤_};
@@ -12,7 +12,8 @@ ghost use Rattle.cells.specs.Views.{scheduleWidth};
 ghost use Rattle.links.specs.Links.{RowsLinked};
 ghost use Rattle.runs.specs.Ranges.{Checked};
 ghost use Rattle.filing.specs.Alone.{rowsUnless};
-ghost use Rattle.filing.specs.Rules.{ruleNumber, atFault, heldRefusals};
+ghost use Rattle.filing.specs.Filing.{unitsRefusals};
+ghost use Rattle.filing.specs.Rules.{ruleNumber, atFault, refusalIn, heldRefusals};
 use crate::answers::answer;
 use crate::answers::at_record;
 use crate::market::Market;
@@ -30,24 +31,44 @@ pub enum Rule {
     Lacking,
 }
 
-// Holds n rows to the rules, in the order of their numbers.
-pub fn hold(market: Market, cells: &[u64], n: usize, links: &[u16], units: &[u64]) -> Reading
+// Holds n rows to the rules, in the order of their numbers; what reading parents answered has its turn
+// between 7 and 8.
+pub fn hold(
+    market: Market,
+    parents: Reading,
+    cells: &[u64],
+    n: usize,
+    links: &[u16],
+    units: &[u64],
+) -> Reading
     requires { ⌜ n * scheduleWidth ≤ length (now cells) ⌝ }
     requires { ⌜ RowsLinked (now cells) n (now links) ⌝ }
     requires { ⌜ market .units ≤ length (now units) ⌝ }
     requires { ⌜ Checked (market .constraint .hour) (scheduleRows n (now cells)) ⌝ }
-    ensures { λ r. ⌜ r ≡ rowsUnless (firstOf (heldRefusals (market .constraint .hour) (take (market .units) (now (units .entry))) (scheduleRows n (now (cells .entry))))) n ⌝ }
+    ensures { λ r. ⌜ r ≡ rowsUnless (firstOf (heldRefusals (refusalIn parents) (market .constraint .hour) (take (market .units) (now (units .entry))) (scheduleRows n (now (cells .entry))))) n ⌝ }
 {
     let first = hold_to(Rule::Strange, market, cells, n, links, units);
     match first {
         Reading::Refused(refusal) => Reading::Refused(refusal),
-        Reading::Rows(_) => {
-            let second = hold_to(Rule::Unscheduled, market, cells, n, links, units);
-            match second {
-                Reading::Refused(refusal) => Reading::Refused(refusal),
-                Reading::Rows(_) => hold_to(Rule::Lacking, market, cells, n, links, units),
-            }
-        }
+        Reading::Rows(_) => match parents {
+            Reading::Refused(refusal) => Reading::Refused(refusal),
+            Reading::Rows(_) => hold_units(market, cells, n, links, units),
+        },
+    }
+}
+
+// 8, then 9.
+fn hold_units(market: Market, cells: &[u64], n: usize, links: &[u16], units: &[u64]) -> Reading
+    requires { ⌜ n * scheduleWidth ≤ length (now cells) ⌝ }
+    requires { ⌜ RowsLinked (now cells) n (now links) ⌝ }
+    requires { ⌜ market .units ≤ length (now units) ⌝ }
+    requires { ⌜ Checked (market .constraint .hour) (scheduleRows n (now cells)) ⌝ }
+    ensures { λ r. ⌜ r ≡ rowsUnless (firstOf (unitsRefusals (market .constraint .hour) (take (market .units) (now (units .entry))) (scheduleRows n (now (cells .entry))))) n ⌝ }
+{
+    let first = hold_to(Rule::Unscheduled, market, cells, n, links, units);
+    match first {
+        Reading::Refused(refusal) => Reading::Refused(refusal),
+        Reading::Rows(_) => hold_to(Rule::Lacking, market, cells, n, links, units),
     }
 }
 

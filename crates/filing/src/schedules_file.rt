@@ -1,5 +1,6 @@
 // Schedules alone, and beside a market: its rows in a lent run, and linked in another, or the first
 // refusal. Assumes nothing of the bytes.
+ghost use mathlib.Core.List.{[], _∷_};
 ghost use Prim.Native.Nat.{_≤_};
 ghost use lib.ListN.{length, take};
 ghost use Rattle.tables.specs.Laying.{room};
@@ -8,6 +9,7 @@ ghost use Rattle.links.specs.Links.{linksLength, Unlinked};
 ghost use Rattle.filing.specs.Alone.{SchedulesFiled};
 ghost use Rattle.filing.specs.Filed.{MarketFits};
 ghost use Rattle.filing.specs.Filing.{aloneRefusals, besideRefusals};
+ghost use Rattle.filing.specs.Rules.{refusalIn};
 use crate::answers::answer;
 use crate::answers::at_record;
 use crate::market::Market;
@@ -36,9 +38,11 @@ pub fn read_schedules(bytes: &[u8], cells: &mut [u64], links: &mut [u16]) -> Rea
     }
 }
 
-// Reads schedules, and holds its rows to the market too, whose units are listed.
+// Reads schedules, and holds its rows to the market too, whose units are listed. What reading parents
+// answered waits for its turn between 7 and 8.
 pub fn file_schedules(
     market: Market,
+    parents: Reading,
     schedules: &[u8],
     units: &[u64],
     cells: &mut [u64],
@@ -48,11 +52,11 @@ pub fn file_schedules(
     requires { ⌜ room Schedules ≤ length (now cells) ⌝ }
     requires { ⌜ linksLength ≤ length (now links) ⌝ }
     requires { ⌜ Unlinked (now links) ⌝ }
-    ensures { λ r. ⌜ SchedulesFiled (besideRefusals (market .constraint .hour) (take (market .units) (now (units .entry))) (now (schedules .entry))) (now (schedules .entry)) (now (cells .exit)) (now (links .exit)) r ⌝ }
+    ensures { λ r. ⌜ SchedulesFiled (besideRefusals (refusalIn parents ∷ []) (market .constraint .hour) (take (market .units) (now (units .entry))) (now (schedules .entry))) (now (schedules .entry)) (now (cells .exit)) (now (links .exit)) r ⌝ }
 {
     let reading = read_schedules(schedules, cells, links);
     match reading {
         Reading::Refused(refusal) => Reading::Refused(refusal),
-        Reading::Rows(n) => hold(market, cells, n, links, units),
+        Reading::Rows(n) => hold(market, parents, cells, n, links, units),
     }
 }

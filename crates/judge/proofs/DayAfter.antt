@@ -9,15 +9,14 @@ use lib.ListN.{length}
 use borrow.Author.Tests.{leb-true}
 use Rattle.tables.specs.declared.files.Refusal.{Refusal}
 use Rattle.cells.specs.Views.{AnswerRow}
-use Rattle.filing.specs.Filing.{Files, constraintOf, supplyOf, schedulesOf}
+use Rattle.filing.specs.Filing.{Files, constraintOf, supplyOf}
 use Rattle.supply.specs.Supply.{units}
 use Rattle.judge.specs.Day.{DayView, mostRunning, wouldRun, committed}
-use Rattle.judge.specs.Decision.{decided}
 use Rattle.judge.specs.Study.{chosen, outcome, crowding, studyRows, decisionRefusal, studyRefusal, studied}
 use Rattle.judge.proofs.DayLaws.{unit, formed, order-rising, put-all-length}
 use Rattle.judge.proofs.DayRelease.{unless-none}
 use Rattle.judge.proofs.RefusalOrder.{accepted-deciding}
-use Rattle.judge.proofs.RowsToBytes.{shownUnit, rows-units}
+use Rattle.judge.proofs.RowsToBytes.{shownUnit, study-rows, study-rows-units}
 use Rattle.judge.proofs.Sound.{units-rise, day-formed, crowd-kept}
 
 -- what rows have running are their own units
@@ -29,10 +28,7 @@ chosen-units (r ∷ rows) = ap (λ (us : List ℕ). r .unit ∷ us) (chosen-unit
 -- no more run than a day has places
 module _ (d : DayView) (f : Files) (ok : decisionRefusal d f ≡ none) where
   all-run : map unit (map chosen (studyRows d f)) ≡ units (supplyOf (f .supply))
-  unfolding studyRows decided
-  all-run =
-      chosen-units (studyRows d f)
-      ∙ rows-units (constraintOf (f .constraint)) (supplyOf (f .supply)) (schedulesOf (f .schedules)) (d .running) (units (supplyOf (f .supply)))
+  all-run = chosen-units (studyRows d f) ∙ rw (study-rows d f) (study-rows-units d f (units (supplyOf (f .supply))))
 
   committed-few : (h : ℕ) → length (committed h (map chosen (studyRows d f)) d .running) ≤ mostRunning
   unfolding committed crowding

@@ -20,7 +20,7 @@ use Rattle.judge.specs.Answer.{verdictLetter}
 use Rattle.judge.specs.Decision.{need, cleared, ofUnit, unitRow, verdictOf, hasRelevant, hasEligible, exposedUnit}
 use Rattle.judge.specs.Right.{RowOf, RelevantRow, EligibleRow, Exposed, failed, untested}
 use Rattle.judge.proofs.OneMarket.{relevant-same}
-use Rattle.judge.proofs.SearchLaws.{mem-any}
+use Rattle.base.proofs.SearchLaws.{mem-any}
 use Rattle.judge.proofs.TestRight.{cleared-clears, failed-tested}
 
 -- a verdict is known by its letter
@@ -37,13 +37,13 @@ verdict-of-letter F F e = refl
 
 -- a row of the unit that passes a test
 module _ (c : ConstraintRow) (rows : List SupplyRow) (u : ℕ) (p : SupplyRow → Bool) where
-  row-passes : any (λ (r : SupplyRow). ofUnit u r && p r) rows ≡ true → (r : SupplyRow) × RowOf c rows u r × (p r ≡ true)
+  row-passes : any (λ (r : SupplyRow). ofUnit u r && p r) rows ≡ true → (r : SupplyRow) × RowOf rows u r × (p r ≡ true)
   unfolding ofUnit
   row-passes e =
       let (r, m, t) = any-mem (λ (r : SupplyRow). ofUnit u r && p r) rows e in
       (r, record { a-row = m; its-unit = eqb-true (r .unit) u (and-fst (ofUnit u r) (p r) t) }, and-snd (ofUnit u r) (p r) t)
 
-  passes-row : (r : SupplyRow) → RowOf c rows u r → p r ≡ true → any (λ (r : SupplyRow). ofUnit u r && p r) rows ≡ true
+  passes-row : (r : SupplyRow) → RowOf rows u r → p r ≡ true → any (λ (r : SupplyRow). ofUnit u r && p r) rows ≡ true
   unfolding ofUnit
   passes-row r i t = mem-any (λ (r : SupplyRow). ofUnit u r && p r) (i .a-row) (simp (eq-eqb (r .unit) u (i .its-unit), t))
 

@@ -5,6 +5,7 @@ pub mod DayRelease
 pub mod Demand3
 pub mod ExposedRight
 pub mod LayoutLaws
+pub mod NoParents
 pub mod OneMarket
 pub mod OwnRows
 pub mod RefusalOrder
@@ -12,7 +13,6 @@ pub mod RisingSame
 pub mod RowLaws
 pub mod RowsToBytes
 pub mod ScheduleRight
-pub mod SearchLaws
 pub mod Sound
 pub mod TestRight
 pub mod UnitRows

@@ -15,7 +15,7 @@ use Rattle.market.specs.Removals.{relevantWithout, remaining}
 use Rattle.offers.specs.Supply.{absDfax, eligible, offer, costBeside, atMost}
 use Rattle.market.proofs.ClearingLaws.{clears-once}
 use Rattle.offers.proofs.SupplyLaws.{supply-same}
-use Rattle.judge.proofs.SearchLaws.{same-test}
+use Rattle.base.proofs.SearchLaws.{same-test}
 
 -- o / z at most three halves of a / x, which is at most b / y
 carried : (o a b x y z : ℕ) → 0 < x → a * y ≤ b * x → 2 * (o * x) ≤ 3 * (a * z) → 2 * (o * y) ≤ 3 * (b * z)

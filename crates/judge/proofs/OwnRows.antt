@@ -19,7 +19,7 @@ use Rattle.runs.specs.Runs.{hasHours, hasRun, lacking}
 use Rattle.schedules.proofs.OddsLaws.{odds-hours}
 use Rattle.choice.specs.Right.{OneRowEach}
 use Rattle.choice.specs.Schedules.{atHour, schedules}
-use Rattle.judge.proofs.SearchLaws.{none-found, Agree, same, behind, before, agree}
+use Rattle.base.proofs.SearchLaws.{none-found, Agree, same, behind, before, agree}
 
 -- a row among the unit's own, and one of them for the study hour
 module _ (u : ℕ) (rows : List ScheduleRow) where

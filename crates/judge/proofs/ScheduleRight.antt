@@ -27,7 +27,7 @@ use Rattle.judge.specs.Decision.{unitRow, verdictOf, exposedUnit, chosen
 use Rattle.judge.specs.Right.{RightSchedule}
 use Rattle.judge.proofs.ExposedRight.{exposed-right}
 use Rattle.judge.proofs.OwnRows.{one-row-each, has-schedule}
-use Rattle.judge.proofs.SearchLaws.{same-test, none-found}
+use Rattle.base.proofs.SearchLaws.{same-test, none-found}
 use Rattle.judge.proofs.Sound.{Sound, some-need}
 
 module _
@@ -45,7 +45,7 @@ module _
         (one-row-each scheduled (s .schedules-agree) (c .hour) u)
         x
 
-    module _ (u : ℕ) (m : Among u (units supply)) where
+    module _ (filed : List SupplyRow) (u : ℕ) (m : Among u (units supply)) where
       abbrev day : Option Kind
       day = kindRunning u running
 
@@ -63,7 +63,7 @@ module _
           choice-exists day (exposedUnit c supply u) (c .hour) (own u scheduled) .1
           (some-eligible day (exposedUnit c supply u) (c .hour) (own u scheduled) row n has-cost)
 
-      pub schedule-right : RightSchedule c supply scheduled running (decidedRow c supply scheduled running u)
+      pub schedule-right : RightSchedule c supply scheduled running (decidedRow c supply scheduled running filed u)
       unfolding decidedRow
       schedule-right =
           let (x, e) = is-chosen in

@@ -13,7 +13,8 @@ use Rattle.tables.specs.Reading.{refused}
 use Rattle.tables.specs.Rows.{SupplyRow, ScheduleRow}
 use Rattle.tables.specs.declared.constraint.ConstraintRow.{ConstraintRow}
 use Rattle.tables.specs.declared.files.File.the-variants.{Schedules}
-use Rattle.filing.specs.Filing.{Files, constraintOf, supplyOf, schedulesOf, filingRefusals, filingRefusal}
+use Rattle.filing.specs.Filing.{Files, constraintOf, supplyOf, schedulesOf, parentsOf, groupsOf, filingRefusals, filingRefusal}
+use Rattle.affiliates.proofs.GroupLaws.{grouped-units, grouped-agree, grouped-permitted}
 use Rattle.filing.specs.Kept.{Kept}
 use Rattle.schedules.specs.Schedules.{schedulesAtOdds, unscheduled}
 use Rattle.runs.specs.Runs.{lacking}
@@ -67,6 +68,19 @@ module _ (d : DayView) (f : Files) (e : decisionRefusal d f ≡ none) where
   pub units-rise : RisingFrom 0 (units (supplyOf (f .supply)))
   units-rise = units-rising (some-units (files-kept .supply-permitted))
 
+  -- groups have the units of the supply file
+  pub groups-units : units (groupsOf f) ≡ units (supplyOf (f .supply))
+  unfolding groupsOf
+  groups-units = grouped-units (parentsOf (f .parents)) (supplyOf (f .supply))
+
+  pub groups-permitted : All PermittedSupply (groupsOf f)
+  unfolding groupsOf
+  groups-permitted = grouped-permitted (files-kept .parents-permitted) (files-kept .supply-permitted)
+
+  groups-agree : supplyAtOdds (groupsOf f) ≡ none
+  unfolding groupsOf
+  groups-agree = grouped-agree (parentsOf (f .parents)) (supplyOf (f .supply)) (files-kept .supply-agrees)
+
   cost-kept : costless (constraintOf (f .constraint) .hour) (supplyOf (f .supply)) (schedulesOf (f .schedules)) (d .running) ≡ none
   unfolding rowsRefusals
   cost-kept =
@@ -78,14 +92,15 @@ module _ (d : DayView) (f : Files) (e : decisionRefusal d f ≡ none) where
   unfolding rowsRefusals
   crowd-kept = first-of-none _ _ (first-of-none _ _ (first-of-none _ _ (none-refused .1) .1) .1) .0
 
-  pub sound : Sound (constraintOf (f .constraint)) (supplyOf (f .supply)) (schedulesOf (f .schedules)) (d .running)
+  pub sound : Sound (constraintOf (f .constraint)) (groupsOf f) (schedulesOf (f .schedules)) (d .running)
+  unfolding costless
   sound =
       record {
         constraint = files-kept .constraint-permitted;
         schedules = files-kept .schedules-permitted;
-        supply-agrees = files-kept .supply-agrees;
+        supply-agrees = groups-agree;
         schedules-agree = files-kept .schedules-agree;
-        each-scheduled = files-kept .scheduled;
-        whole = files-kept .whole;
-        each-cost = cost-kept;
+        each-scheduled = rw groups-units (files-kept .scheduled);
+        whole = rw groups-units (files-kept .whole);
+        each-cost = rw groups-units cost-kept;
       }

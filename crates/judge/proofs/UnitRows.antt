@@ -11,7 +11,7 @@ use Rattle.base.proofs.Elements.{any-mem}
 use Rattle.tables.specs.Rows.{SupplyRow}
 use Rattle.supply.specs.Supply.{units}
 use Rattle.supply.proofs.UnitLaws.{among-units}
-use Rattle.judge.proofs.SearchLaws.{mem-any}
+use Rattle.base.proofs.SearchLaws.{mem-any}
 
 -- the test of being among some numbers is that of any of them being the one
 among-any : (x : ℕ) (xs : List ℕ) → among x xs ≡ any (λ (y : ℕ). eqb x y) xs

@@ -8,13 +8,12 @@ use lib.Dec.{eqb}
 use borrow.Author.Tests.{eq-eqb, eqb-true, not-false}
 use Rattle.base.proofs.Tests.{and-fst, and-snd}
 use Rattle.tables.specs.Rows.{SupplyRow}
-use Rattle.tables.specs.declared.constraint.ConstraintRow.{ConstraintRow}
 use Rattle.supply.specs.Supply.{units, supplyOdds, supplyAtOdds}
 use Rattle.supply.proofs.UnitLaws.{among-units}
 use Rattle.offers.specs.Supply.{noRow}
 use Rattle.judge.specs.Decision.{ofUnit, unitRow}
 use Rattle.judge.specs.Right.{RowOf}
-use Rattle.judge.proofs.SearchLaws.{among-true, found, Agree, same, behind, before, agree}
+use Rattle.base.proofs.SearchLaws.{among-true, found, Agree, same, behind, before, agree}
 
 -- "Rows of one unit share supplier and dfax."
 pub record Shares (r e : SupplyRow) : Type 0 where
@@ -46,16 +45,16 @@ unit-shares rows f r e m n u = go (agree supplyOdds 1 f m n)
         record { supplier = sym (s .supplier); dfax = sym (s .dfax) }
 
 -- a unit of the file has a row
-pub unit-row : (c : ConstraintRow) (rows : List SupplyRow) (u : ℕ) → Among u (units rows) → RowOf c rows u (unitRow rows u)
+pub unit-row : (rows : List SupplyRow) (u : ℕ) → Among u (units rows) → RowOf rows u (unitRow rows u)
 unfolding unitRow ofUnit
-unit-row c rows u m =
+unit-row rows u m =
     let (a-row, its-unit) = found (ofUnit u) noRow rows (sym (among-units u rows) ∙ among-true m) in
     record { a-row = a-row; its-unit = eqb-true _ _ its-unit }
 
 -- and each of its rows has the supplier of that one
 pub unit-supplier :
-    (c : ConstraintRow) (rows : List SupplyRow) → supplyAtOdds rows ≡ none → (u : ℕ) → Among u (units rows) →
-    (w : SupplyRow) → RowOf c rows u w → unitRow rows u .supplier ≡ w .supplier
-unit-supplier c rows f u m w i =
-    let j = unit-row c rows u m in
+    (rows : List SupplyRow) → supplyAtOdds rows ≡ none → (u : ℕ) → Among u (units rows) →
+    (w : SupplyRow) → RowOf rows u w → unitRow rows u .supplier ≡ w .supplier
+unit-supplier rows f u m w i =
+    let j = unit-row rows u m in
     unit-shares rows f (unitRow rows u) w (j .a-row) (i .a-row) (j .its-unit ∙ sym (i .its-unit)) .supplier

@@ -1,5 +1,7 @@
 -- Document 01, "Market and verdict" and "Choice of schedule": what a study decides of each unit of the supply file, from the
--- rows of its files and the running units of the day it is given. Assumes nothing.
+-- rows of its files and the running units of the day it is given. Document 02, F-6: "The head stands in for the supplier in the
+-- test; the answer keeps the number from the supply file." So `supply` here are the rows by groups, and `filed` those of the
+-- supply file. Assumes nothing.
 use Prim.Native.Nat.{ℕ}
 use mathlib.Core.Bool.{Bool, cond, _&&_, not}
 use mathlib.Core.List.{List, map}
@@ -64,7 +66,7 @@ module _ (c : ConstraintRow) (supply : List SupplyRow) where
   unfoldable pub hasEligible : ℕ → Bool
   hasEligible u = any (λ (r : SupplyRow). ofUnit u r && eligible (c .cutoff) r) supply
 
-  -- "A unit's verdict is that of its supplier"
+  -- "A unit's verdict is that of its supplier", and with parents that of its group
   unfoldable pub exposedUnit : ℕ → Bool
   exposedUnit u = exposed (verdictOf (party (unitRow supply u))) (hasRelevant u) (hasEligible u)
 
@@ -81,13 +83,13 @@ module _ (c : ConstraintRow) (supply : List SupplyRow) (scheduled : List Schedul
   choiceOf u = choice (kindRunning u running) (exposedUnit c supply u) (c .hour) (own u scheduled)
 
   -- a unit's row goes by the market, the day's kind for the unit and the unit's own schedule rows, and nothing else
-  unfoldable pub decidedRow : ℕ → AnswerRow
-  decidedRow u =
+  unfoldable pub decidedRow : List SupplyRow → ℕ → AnswerRow
+  decidedRow filed u =
       let k = party (unitRow supply u) in
       let chosen = chosenOr (choiceOf u) in
       record {
         unit = u;
-        supplier = unitRow supply u .supplier;
+        supplier = unitRow filed u .supplier;
         verdict = verdictLetter (verdictOf c supply k);
         left = leftShown c supply k;
         schedule = chosen .schedule;
@@ -95,8 +97,8 @@ module _ (c : ConstraintRow) (supply : List SupplyRow) (scheduled : List Schedul
         cost = chosen .cost;
       }
 
-  unfoldable pub decided : List AnswerRow
-  decided = map decidedRow (units supply)
+  unfoldable pub decided : List SupplyRow → List AnswerRow
+  decided filed = map (decidedRow filed) (units supply)
 
 -- 21: "unit of the supply file, running on cost, has no C schedule (file 3, lowest unit)"
 unfoldable pub lacksCost : ℕ → List ScheduleRow → List RunningUnit → ℕ → Bool

@@ -1,6 +1,8 @@
 -- Demand 3, as a predicate on the files of a study, the day it was given and any bytes: "those bytes are in the fixed layout,
 -- one row per unit by rising number with its supplier, and the following holds of every row. .." It speaks of rows, removals
--- and costs alone, never of what the engine computes or keeps. Where it says the relief, the need is meant. Assumes nothing.
+-- and costs alone, never of what the engine computes or keeps. Where it says the relief, the need is meant. Document 02, F-6:
+-- "A seller sees the verdict of his group, and "other supplier" means another group; a removal takes away whole groups, his own
+-- included." So rows are judged by groups, the head of each chain in its suppliers' place. Assumes nothing.
 use Prim.Native.Nat.{ℕ, _≤_, _<_}
 use mathlib.Core.Path.{_≡_}
 use mathlib.Core.Logic.{_≢_, _↔_}
@@ -12,7 +14,7 @@ use Rattle.numeral.specs.Numeral.{Numeral}
 use Rattle.tables.specs.Rows.{SupplyRow, ScheduleRow, letterOf}
 use Rattle.tables.specs.declared.constraint.ConstraintRow.{ConstraintRow}
 use Rattle.tables.specs.declared.files.Kind.{Kind}
-use Rattle.filing.specs.Filing.{Files, constraintOf, supplyOf, schedulesOf}
+use Rattle.filing.specs.Filing.{Files, constraintOf, supplyOf, schedulesOf, groupsOf}
 use Rattle.schedules.specs.Schedules.{own}
 use Rattle.market.specs.Clearing.{Clears, needOf, eligibleSupply}
 use Rattle.market.specs.Parties.{party}
@@ -54,6 +56,17 @@ pub record InLayout (rs : List AnswerRow) (text : List ℕ) : Type 0 where
   pub laid-out : text ≡ answerHeader ++ body
   pub records : Lines rs body
 
+-- a row of the unit
+pub record RowOf (supply : List SupplyRow) (u : ℕ) (w : SupplyRow) : Type 0 where
+  pub a-row : Among w supply
+  pub its-unit : w .unit ≡ u
+
+-- "one row per unit by rising number"
+pub record RowPerUnit (supply : List SupplyRow) (rs : List AnswerRow) : Type 0 where
+  pub rising : RisingFrom 0 (map (λ (r : AnswerRow). r .unit) rs)
+  pub a-unit : (r : AnswerRow) → Among r rs → (w : SupplyRow) × RowOf supply (r .unit) w
+  pub every-unit : (w : SupplyRow) → Among w supply → (r : AnswerRow) × Among r rs × (r .unit ≡ w .unit)
+
 abbrev pub needed : ConstraintRow → ℕ
 needed c = needOf (c .relief)
 
@@ -62,7 +75,7 @@ module _ (c : ConstraintRow) (supply : List SupplyRow) where
   abbrev pub Clearing : SupplyRow → Type 0
   Clearing q = Clears (c .cutoff) (needed c) supply q
 
-  -- "A removal takes away the row's supplier together with none, one or two other suppliers."
+  -- "A removal takes away the row's supplier together with none, one or two other suppliers", each as a whole group
   abbrev pub Removal : ℕ → List ℕ → Type 0
   Removal k taken = Removes supply k taken
 
@@ -83,21 +96,16 @@ module _ (c : ConstraintRow) (supply : List SupplyRow) where
         verdict ≢ verdictLetter U → (q : SupplyRow) → Clearing q →
         (taken : List ℕ) → Removal k taken → left ≤ remaining (c .cutoff) q taken supply
 
-  -- a row of the unit
-  pub record RowOf (u : ℕ) (w : SupplyRow) : Type 0 where
-    pub a-row : Among w supply
-    pub its-unit : w .unit ≡ u
-
   pub record RelevantRow (u : ℕ) : Type 0 where
     pub row : SupplyRow
-    pub of-the-unit : RowOf u row
+    pub of-the-unit : RowOf supply u row
     pub cleared : SupplyRow
     pub clears : Clearing cleared
     pub is-relevant : relevant (c .cutoff) cleared row ≡ true
 
   pub record EligibleRow (u : ℕ) : Type 0 where
     pub row : SupplyRow
-    pub of-the-unit : RowOf u row
+    pub of-the-unit : RowOf supply u row
     pub is-eligible : eligible (c .cutoff) row ≡ true
 
   -- "A unit is exposed when its verdict is F and it has a relevant row, or its verdict is U and it has an eligible row." It goes
@@ -121,22 +129,18 @@ module _ (c : ConstraintRow) (supply : List SupplyRow) where
         (own (r .unit) scheduled)
         (record { schedule = r .schedule; kind = kind; cost = r .cost })
 
-  pub record RightRow (scheduled : List ScheduleRow) (running : List RunningUnit) (r : AnswerRow) : Type 0 where
-    -- "with its supplier"
-    pub supplier : (w : SupplyRow) → RowOf (r .unit) w → r .supplier ≡ w .supplier
-    pub tested : (w : SupplyRow) → RowOf (r .unit) w → RightTest (party w) (r .verdict) (r .left)
+  pub record RightRow (scheduled : List ScheduleRow) (running : List RunningUnit) (filed : List SupplyRow) (r : AnswerRow) : Type 0 where
+    -- "with its supplier", and with parents "the number from the supply file"
+    pub supplier : (w : SupplyRow) → RowOf filed (r .unit) w → r .supplier ≡ w .supplier
+    pub tested : (w : SupplyRow) → RowOf supply (r .unit) w → RightTest (party w) (r .verdict) (r .left)
     pub schedule : RightSchedule scheduled running r
-
-  -- "one row per unit by rising number"
-  pub record RowPerUnit (rs : List AnswerRow) : Type 0 where
-    pub rising : RisingFrom 0 (map (λ (r : AnswerRow). r .unit) rs)
-    pub a-unit : (r : AnswerRow) → Among r rs → (w : SupplyRow) × RowOf (r .unit) w
-    pub every-unit : (w : SupplyRow) → Among w supply → (r : AnswerRow) × Among r rs × (r .unit ≡ w .unit)
 
 -- demand 3
 pub record Right (d : DayView) (f : Files) (text : List ℕ) : Type 0 where
   pub rows : List AnswerRow
   pub in-layout : InLayout rows text
-  pub per-unit : RowPerUnit (constraintOf (f .constraint)) (supplyOf (f .supply)) rows
+  pub per-unit : RowPerUnit (supplyOf (f .supply)) rows
   pub every-row :
-      All (RightRow (constraintOf (f .constraint)) (supplyOf (f .supply)) (schedulesOf (f .schedules)) (d .running)) rows
+      All
+      (RightRow (constraintOf (f .constraint)) (groupsOf f) (schedulesOf (f .schedules)) (d .running) (supplyOf (f .supply)))
+      rows

@@ -1,5 +1,5 @@
--- The starred examples of document 01, "Examples at the edges", as one table: what the definitions give, computed by the
--- checker. Assumes nothing.
+-- The starred examples of document 01, "Examples at the edges", as one table, and behind it our own for document 02: what the
+-- definitions give, computed by the checker. Assumes nothing.
 use Prim.Native.Nat.{ℕ}
 use mathlib.Core.Path.{_≡_, refl}
 use mathlib.Core.Bool.{true, false}
@@ -19,6 +19,7 @@ use Rattle.choice.specs.Schedules.{
   eligibleKinds,
   eligible as eligibleSchedule,
 }
+use Rattle.affiliates.specs.Affiliates.{affiliates·all}
 use Rattle.filing.specs.Filing.{files, filing·all}
 use Rattle.runs.specs.Runs.{runs·all}
 use Rattle.schedules.specs.Schedules.{schedules·all}
@@ -99,7 +100,7 @@ unfolding inRun offerPrice price hourCost runningCost inItsRun share runCost sta
 choice·all = tt
 
 unfoldable engine·all : Unit {0}
-unfolding starred·all rising·all numbers·all supply·all schedules·all runs·all filing·all market·all test·all choice·all day·all answer·all decision·all study·all
+unfolding starred·all rising·all numbers·all supply·all affiliates·all schedules·all runs·all filing·all market·all test·all choice·all day·all answer·all decision·all study·all
 engine·all = tt
 
 -- "Example ★: .. prints"
@@ -108,10 +109,28 @@ answerExample =
     bytes
     "unit,supplier,verdict,left,schedule,kind,cost\r\n11,1,F,0,2,C,1030000\r\n12,2,F,0,1,M,330000\r\n13,3,F,0,1,C,890000\r\n14,4,F,5000000,1,M,500000\r\n"
 
-not-refused : decisionRefusal freshDay (files constraintFile supplyFile schedulesFile) ≡ none
+not-refused : decisionRefusal freshDay (files constraintFile supplyFile schedulesFile []) ≡ none
 unfolding engine·all
 not-refused = refl
 
-whole-example : answerFile freshDay (files constraintFile supplyFile schedulesFile) ≡ answerExample
+whole-example : answerFile freshDay (files constraintFile supplyFile schedulesFile []) ≡ answerExample
 unfolding engine·all
 whole-example = refl
+
+-- F-6: the parents `1,2` make suppliers 1 and 2 one group, so that a removal of 4 with two others leaves nothing. The answer is
+-- the same but for what is left to unit 14, whose supplier is still 4.
+abbrev parentsFile : List ℕ
+parentsFile = bytes "supplier,parent\r\n1,2\r\n"
+
+abbrev groupedExample : List ℕ
+groupedExample =
+    bytes
+    "unit,supplier,verdict,left,schedule,kind,cost\r\n11,1,F,0,2,C,1030000\r\n12,2,F,0,1,M,330000\r\n13,3,F,0,1,C,890000\r\n14,4,F,0,1,M,500000\r\n"
+
+parents-not-refused : decisionRefusal freshDay (files constraintFile supplyFile schedulesFile parentsFile) ≡ none
+unfolding engine·all
+parents-not-refused = refl
+
+grouped-example : answerFile freshDay (files constraintFile supplyFile schedulesFile parentsFile) ≡ groupedExample
+unfolding engine·all
+grouped-example = refl

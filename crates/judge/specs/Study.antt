@@ -1,6 +1,6 @@
 -- Document 01: the whole outcome of a study, for any day, any files and any lent buffer: the refusals as one list, "24; then
--- file by file 1, 2, 4, 3, 5, 6, 7, each over the whole file; then 8, 9, 20, 21, 22, 10", the day afterwards and every byte
--- of the buffer. Assumes nothing.
+-- file by file 1, 2, 4, 3, 5, 6, 7, each over the whole file; then 8, 9, 20, 21, 22, 10", with those of document 02's files
+-- among them, the day afterwards and every byte of the buffer. Assumes nothing.
 use Prim.Native.Nat.{ℕ}
 use mathlib.Core.Bool.{not}
 use mathlib.Core.List.{List, [], _∷_, _++_, map}
@@ -13,7 +13,7 @@ use Rattle.tables.specs.Rows.{SupplyRow, ScheduleRow, kindOf}
 use Rattle.tables.specs.declared.constraint.ConstraintRow.{ConstraintRow}
 use Rattle.tables.specs.declared.files.File.the-variants.{Schedules}
 use Rattle.tables.specs.declared.files.Refusal.{Refusal}
-use Rattle.filing.specs.Filing.{Files, constraintOf, supplyOf, schedulesOf, filingRefusals}
+use Rattle.filing.specs.Filing.{Files, constraintOf, supplyOf, schedulesOf, groupsOf, filingRefusals}
 use Rattle.supply.specs.Supply.{units}
 use Rattle.cells.specs.Views.{AnswerRow}
 use Rattle.judge.specs.Answer.{answerText}
@@ -59,7 +59,8 @@ rowsRefusals d c supply scheduled =
 module _ (d : DayView) (f : Files) where
   -- the rows of the answer
   unfoldable pub studyRows : List AnswerRow
-  studyRows = decided (constraintOf (f .constraint)) (supplyOf (f .supply)) (schedulesOf (f .schedules)) (d .running)
+  studyRows =
+      decided (constraintOf (f .constraint)) (groupsOf f) (schedulesOf (f .schedules)) (d .running) (supplyOf (f .supply))
 
   -- the answer file
   unfoldable pub answerFile : List ℕ

@@ -20,7 +20,7 @@ pub data Rises : List ℕ → Type 0 where
   nothing : Rises []
   from : {x : ℕ} {xs : List ℕ} → RisingFrom x xs → Rises (x ∷ xs)
 
-inserted-rises : {ys : List ℕ} (x : ℕ) → Rises ys → Rises (inserted x ys)
+pub inserted-rises : {ys : List ℕ} (x : ℕ) → Rises ys → Rises (inserted x ys)
 unfolding inserted
 inserted-rises x nothing = from end
 inserted-rises x (from {x = y} {xs = ys} r) =

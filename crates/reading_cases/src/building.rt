@@ -28,6 +28,8 @@ pub fn answer(line: &[u8]) {
         one(File::Supply, form);
     } else if same_text(name, b"schedules") {
         one(File::Schedules, form);
+    } else if same_text(name, b"parents") {
+        one(File::Parents, form);
     } else {
         unreadable();
     }

@@ -1,4 +1,4 @@
-// The program: studies the three files of the folder that it is run in with a fresh day, and prints
+// The program: studies the files of the folder that it is run in with a fresh day, and prints
 // the answer file, or why there is none. Assumes nothing of the folder. What a file holds and what is
 // printed can't be said in a contract; what a study of those bytes gives is said by `Day::study`.
 ghost use Rattle.io.specs.Counts.{Counts};
@@ -17,20 +17,26 @@ fn main() {
     let mut constraint = [0u8; ROOM];
     let mut supply = [0u8; ROOM];
     let mut schedules = [0u8; ROOM];
-    run(&mut constraint, &mut supply, &mut schedules);
+    let mut parents = [0u8; ROOM];
+    run(&mut constraint, &mut supply, &mut schedules, &mut parents);
 }
 
-// Reads the three files into the room lent, and studies them; one that is too long comes before every
-// refusal.
-fn run(constraint: &mut [u8], supply: &mut [u8], schedules: &mut [u8]) {
+// Reads the files into the room lent, and studies them; one that is too long comes before every refusal.
+fn run(constraint: &mut [u8], supply: &mut [u8], schedules: &mut [u8], parents: &mut [u8]) {
     let c = read(b"constraint.csv", constraint);
     let s = read(b"supply.csv", supply);
     let t = read(b"schedules.csv", schedules);
-    if MOST < c || MOST < s || MOST < t {
+    let p = read(b"parents.csv", parents);
+    if MOST < c || MOST < s || MOST < t || MOST < p {
         print(b"too long\r\n");
         return;
     }
-    study(&constraint[0..c], &supply[0..s], &schedules[0..t]);
+    study(
+        &constraint[0..c],
+        &supply[0..s],
+        &schedules[0..t],
+        &parents[0..p],
+    );
 }
 
 // Reads the file of this name to the start of the room, until it is full, and answers how many bytes
@@ -48,14 +54,14 @@ fn read(name: &[u8], room: &mut [u8]) -> usize
 }
 
 // Studies the files with room for the longest answer.
-fn study(constraint: &[u8], supply: &[u8], schedules: &[u8]) {
+fn study(constraint: &[u8], supply: &[u8], schedules: &[u8], parents: &[u8]) {
     let mut room = [0u8; answer::LONGEST];
-    study_into(constraint, supply, schedules, &mut room);
+    study_into(constraint, supply, schedules, parents, &mut room);
 }
 
 // Studies the files, and prints the answer file or the refusal.
-fn study_into(constraint: &[u8], supply: &[u8], schedules: &[u8], room: &mut [u8]) {
-    let studied = Day::fresh().study(constraint, supply, schedules, room);
+fn study_into(constraint: &[u8], supply: &[u8], schedules: &[u8], parents: &[u8], room: &mut [u8]) {
+    let studied = Day::fresh().study(constraint, supply, schedules, parents, room);
     let outcome = studied.answer;
     match outcome {
         Study::Written(count) => print(&room[0..count]),

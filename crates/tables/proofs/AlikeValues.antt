@@ -17,7 +17,7 @@ use Rattle.csv.proofs.Texts.{Alikes, no-field, field, AlikeRecords, no-record, 
 use Rattle.numeral.specs.Numeral.{number, within}
 use Rattle.numeral.proofs.Laws.{no-numeral-around}
 use Rattle.tables.specs.declared.files.File.{File}
-use Rattle.tables.specs.declared.files.File.the-variants.{Constraint, Supply, Schedules}
+use Rattle.tables.specs.declared.files.File.the-variants.{Constraint, Supply, Schedules, Parents}
 use Rattle.tables.specs.Table.{
   Form,
   numeral,
@@ -27,6 +27,7 @@ use Rattle.tables.specs.Table.{
   constraintColumns,
   supplyColumns,
   schedulesColumns,
+  parentsColumns,
   table,
   header,
 }
@@ -104,10 +105,11 @@ quotelessColumns [] = true
 quotelessColumns (c ∷ cs) = quoteless (c .minimum ∷ c .maximum ∷ c .name) && quotelessColumns cs
 
 pub table-quoteless : (f : File) → quotelessColumns (table f .columns) ≡ true
-unfolding quotelessColumns quoteless constraintColumns supplyColumns schedulesColumns
+unfolding quotelessColumns quoteless constraintColumns supplyColumns schedulesColumns parentsColumns
 table-quoteless Constraint = refl
 table-quoteless Supply = refl
 table-quoteless Schedules = refl
+table-quoteless Parents = refl
 
 -- what the test says of a column
 pub record QuotelessColumn (c : Column) : Type 0 where

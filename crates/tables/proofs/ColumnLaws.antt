@@ -23,6 +23,7 @@ use Rattle.tables.specs.Table.{
   constraintColumns,
   supplyColumns,
   schedulesColumns,
+  parentsColumns,
   columnAt,
 }
 use Rattle.tables.specs.Values.{value, inForm, excess, oneOf}
@@ -59,13 +60,13 @@ module _ (i : ℕ) where
   minimum-small = at-most 100000000 minima computed i
     where
       computed : allAtMost 100000000 minima ≡ true
-      computed = unfold allAtMost allColumns constraintColumns supplyColumns schedulesColumns in refl
+      computed = unfold allAtMost allColumns constraintColumns supplyColumns schedulesColumns parentsColumns in refl
 
   pub maximum-small : getD maxima i 0 ≤ 100000000
   maximum-small = at-most 100000000 maxima computed i
     where
       computed : allAtMost 100000000 maxima ≡ true
-      computed = unfold allAtMost allColumns constraintColumns supplyColumns schedulesColumns in refl
+      computed = unfold allAtMost allColumns constraintColumns supplyColumns schedulesColumns parentsColumns in refl
 
 -- a number below the minimum, and any other
 module _ (i x : ℕ) where

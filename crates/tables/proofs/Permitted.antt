@@ -21,8 +21,9 @@ use Rattle.tables.specs.Ranges.{
   PermittedConstraint,
   PermittedSupply,
   PermittedSchedule,
+  PermittedParent,
 }
-use Rattle.tables.specs.Rows.{constraintRow, supplyRow, scheduleRow}
+use Rattle.tables.specs.Rows.{constraintRow, supplyRow, scheduleRow, parentRow}
 use Rattle.tables.specs.Table.{
   Form,
   numeral,
@@ -32,6 +33,7 @@ use Rattle.tables.specs.Table.{
   constraintColumns,
   supplyColumns,
   schedulesColumns,
+  parentsColumns,
 }
 use Rattle.tables.specs.Values.{MINUS, excess, oneOf, inForm, value, isSome, cells, wellFormed}
 
@@ -128,3 +130,8 @@ schedule-permitted
       some-minrun = m .0;
       minrun = m .1;
     }
+
+pub parent-permitted : {xs : List ℕ} → PermittedCells parentsColumns xs → PermittedParent (parentRow xs)
+unfolding parentsColumns
+parent-permitted (one-cell s (one-cell p no-cell)) =
+    record { some-supplier = s .0; supplier = s .1; some-parent = p .0; parent = p .1 }

@@ -26,6 +26,7 @@ use Rattle.tables.specs.Table.{
   constraintColumns,
   supplyColumns,
   schedulesColumns,
+  parentsColumns,
   columnAt,
   table,
   firstColumn,
@@ -34,7 +35,7 @@ use Rattle.tables.specs.Table.{
 use Rattle.tables.specs.Values.{value, isSome, cells, allCells, wellFormed}
 use Rattle.tables.specs.Laying.{FieldRead, RowLaid, RowsLaid}
 use Rattle.tables.specs.declared.files.File.{File}
-use Rattle.tables.specs.declared.files.File.the-variants.{Constraint, Supply, Schedules}
+use Rattle.tables.specs.declared.files.File.the-variants.{Constraint, Supply, Schedules, Parents}
 use Rattle.tables.specs.declared.rows.Field.{Field}
 use Rattle.tables.specs.declared.rows.Row.{Row}
 
@@ -43,19 +44,21 @@ unfoldable pub part : ℕ → ℕ → List Column
 part first n = take n (drop first allColumns)
 
 pub columns-part : (f : File) → table f .columns ≡ part (firstColumn f) (width f)
-unfolding part width allColumns constraintColumns supplyColumns schedulesColumns
+unfolding part width allColumns constraintColumns supplyColumns schedulesColumns parentsColumns
 columns-part Constraint = refl
 columns-part Supply = refl
 columns-part Schedules = refl
+columns-part Parents = refl
 
 pub within-all : (f : File) → firstColumn f + width f ≤ columnCount
-unfolding width constraintColumns supplyColumns schedulesColumns
+unfolding width constraintColumns supplyColumns schedulesColumns parentsColumns
 within-all Constraint = omega arith
 within-all Supply = omega arith
 within-all Schedules = omega arith
+within-all Parents = omega arith
 
 all-length : length allColumns ≡ columnCount
-unfolding allColumns constraintColumns supplyColumns schedulesColumns
+unfolding allColumns constraintColumns supplyColumns schedulesColumns parentsColumns
 all-length = refl
 
 module _ (first n : ℕ) (fits : first + n ≤ columnCount) where

@@ -6,9 +6,9 @@ use mathlib.Core.Logic.{_⊎_}
 use mathlib.Core.Bool.{Bool, _&&_}
 use mathlib.Core.List.{List, [], _∷_}
 use lib.Dec.{leb}
-use Rattle.tables.specs.Rows.{SupplyRow, ScheduleRow}
+use Rattle.tables.specs.Rows.{SupplyRow, ScheduleRow, ParentRow}
 use Rattle.tables.specs.declared.constraint.ConstraintRow.{ConstraintRow}
-use Rattle.tables.specs.Table.{Form, numeral, signed, letter, Column, M, C, latestHour, highestCost}
+use Rattle.tables.specs.Table.{Form, numeral, signed, letter, Column, M, C, latestHour, highestSupplier, highestCost}
 
 -- whether a number is within the range of a column of numerals
 unfoldable pub inColumn : Column → ℕ → Bool
@@ -37,7 +37,7 @@ pub record PermittedSupply (r : SupplyRow) : Type 0 where
   pub some-unit : 1 ≤ r .unit
   pub unit : r .unit ≤ 9999
   pub some-supplier : 1 ≤ r .supplier
-  pub supplier : r .supplier ≤ 999
+  pub supplier : r .supplier ≤ highestSupplier
   pub some-mw : 1 ≤ r .mw
   pub mw : r .mw ≤ 100000
   pub cost : r .cost ≤ highestCost
@@ -56,3 +56,9 @@ pub record PermittedSchedule (r : ScheduleRow) : Type 0 where
   pub startup : r .startup ≤ 100000000
   pub some-minrun : 1 ≤ r .minrun
   pub minrun : r .minrun ≤ 24
+
+pub record PermittedParent (r : ParentRow) : Type 0 where
+  pub some-supplier : 1 ≤ r .supplier
+  pub supplier : r .supplier ≤ highestSupplier
+  pub some-parent : 1 ≤ r .parent
+  pub parent : r .parent ≤ highestSupplier

@@ -1,4 +1,4 @@
--- The rows of the three files by the names of their columns, as cells hold them: dfax in excess of 10000, so that -10000
+-- The rows of the files by the names of their columns, as cells hold them: dfax in excess of 10000, so that -10000
 -- is 0, and a kind as its letter. And rows out of a flat run of cells, one row behind the other. Assumes nothing.
 use Prim.Native.Nat.{ℕ, zero, suc, _+_, _-_}
 use mathlib.Core.Bool.{cond}
@@ -28,6 +28,11 @@ pub record ScheduleRow : Type 0 where
   pub startup : ℕ
   pub minrun : ℕ
 
+-- a supplier with the parent that it is given
+pub record ParentRow : Type 0 where
+  pub supplier : ℕ
+  pub parent : ℕ
+
 abbrev pub constraintRow : List ℕ → ConstraintRow
 constraintRow cs = record { hour = getD cs 0 0; relief = getD cs 1 0; cutoff = getD cs 2 0 }
 
@@ -55,6 +60,9 @@ scheduleRow cs =
       minrun = getD cs 8 0;
     }
 
+abbrev pub parentRow : List ℕ → ParentRow
+parentRow cs = record { supplier = getD cs 0 0; parent = getD cs 1 0 }
+
 -- the first n rows of w cells each
 unfoldable pub rowsOf : ℕ → ℕ → List ℕ → List (List ℕ)
 rowsOf w zero cs = []
@@ -65,6 +73,9 @@ supplyRows n cs = map supplyRow (rowsOf 5 n cs)
 
 unfoldable pub scheduleRows : ℕ → List ℕ → List ScheduleRow
 scheduleRows n cs = map scheduleRow (rowsOf 9 n cs)
+
+unfoldable pub parentRows : ℕ → List ℕ → List ParentRow
+parentRows n cs = map parentRow (rowsOf 2 n cs)
 
 -- |dfax| of a cell
 unfoldable pub size : ℕ → ℕ

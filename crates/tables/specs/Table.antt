@@ -1,4 +1,5 @@
--- Document 01, "Files": the one fixed table of the files, their headers, columns, permitted ranges and numbers of rows.
+-- Document 01, "Files": the one fixed table of the files, their headers, columns, permitted ranges and numbers of rows. And
+-- document 02, F-6: "A study's fifth file (parents.csv) `supplier,parent`, at most 64 rows", "both columns range as supplier does".
 -- Assumes nothing.
 use Prim.Native.Nat.{ℕ}
 use Prim.Native.String.{String}
@@ -6,7 +7,7 @@ use mathlib.Core.List.{List, [], _∷_, _++_, map}
 use lib.ListN.{length, getD}
 use Rattle.base.specs.Text.{bytes}
 use Rattle.tables.specs.declared.files.File.{File}
-use Rattle.tables.specs.declared.files.File.the-variants.{Constraint, Supply, Schedules}
+use Rattle.tables.specs.declared.files.File.the-variants.{Constraint, Supply, Schedules, Parents}
 
 -- what a field may hold
 pub data Form : Type 0 where
@@ -37,9 +38,12 @@ M = 0x4D
 abbrev pub C : ℕ
 C = 0x43
 
--- the maximum of the hours, and of costs and prices
+-- the maximum of the hours, of suppliers' numbers, and of costs and prices
 abbrev pub latestHour : ℕ
 latestHour = 23
+
+abbrev pub highestSupplier : ℕ
+highestSupplier = 999
 
 abbrev pub highestCost : ℕ
 highestCost = 200000
@@ -55,7 +59,7 @@ constraintColumns =
 unfoldable pub supplyColumns : List Column
 supplyColumns =
     column "unit" numeral 1 9999  -- a number
-    ∷ column "supplier" numeral 1 999  -- a number
+    ∷ column "supplier" numeral 1 highestSupplier  -- a number
     ∷ column "mw" numeral 1 100000  -- tenths of a MW
     ∷ column "cost" numeral 0 highestCost  -- cents per MWh
     ∷ column "dfax" signed 10000 10000  -- ten-thousandths, from -10000
@@ -74,24 +78,32 @@ schedulesColumns =
     ∷ column "minrun" numeral 1 24  -- hours
     ∷ []
 
+unfoldable pub parentsColumns : List Column
+parentsColumns =
+    column "supplier" numeral 1 highestSupplier  -- a number
+    ∷ column "parent" numeral 1 highestSupplier  -- a number
+    ∷ []
+
 abbrev pub table : File → Table
 table Constraint = record { number = 1; columns = constraintColumns; fewestRows = 1; mostRows = 1 }
 table Supply = record { number = 2; columns = supplyColumns; fewestRows = 0; mostRows = 256 }
 table Schedules = record { number = 3; columns = schedulesColumns; fewestRows = 0; mostRows = 1024 }
+table Parents = record { number = 5; columns = parentsColumns; fewestRows = 0; mostRows = 64 }
 
 -- the columns of all files, one behind the other, as the code's tables have them
 unfoldable pub allColumns : List Column
-allColumns = constraintColumns ++ supplyColumns ++ schedulesColumns
+allColumns = constraintColumns ++ supplyColumns ++ schedulesColumns ++ parentsColumns
 
 -- how many they are
 abbrev pub columnCount : ℕ
-columnCount = 17
+columnCount = 19
 
 -- where those of a file begin
 abbrev pub firstColumn : File → ℕ
 firstColumn Constraint = 0
 firstColumn Supply = 3
 firstColumn Schedules = 8
+firstColumn Parents = 17
 
 unfoldable pub columnAt : ℕ → Column
 columnAt i = getD allColumns i (column "" numeral 0 0)
@@ -114,5 +126,5 @@ width f = length (table f .columns)
 
 -- opens all of the above, for examples that compute
 unfoldable pub table·all : Unit {0}
-unfolding constraintColumns supplyColumns schedulesColumns allColumns columnAt header joined headerText width
+unfolding constraintColumns supplyColumns schedulesColumns parentsColumns allColumns columnAt header joined headerText width
 table·all = tt

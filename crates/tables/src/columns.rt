@@ -9,11 +9,13 @@ use crate::kinds::C;
 use crate::kinds::M;
 use numeral::Answer;
 
-// The columns of the three files, one file behind the other.
-const COLUMNS: usize = 17;
+// The columns of all files, one file behind the other.
+const COLUMNS: usize = 19;
 
-// The maximum of the hours, and of costs and prices.
+// The maximum of the hours, of suppliers' numbers, and of costs and prices.
 const LATEST_HOUR: u64 = 23;
+
+const HIGHEST_SUPPLIER: u64 = 999;
 
 const HIGHEST_COST: u64 = 200000;
 
@@ -45,6 +47,9 @@ pub const FORM: [u8; COLUMNS] = [
     NUMERAL,
     NUMERAL,
     NUMERAL,
+    // supplier, parent
+    NUMERAL,
+    NUMERAL,
 ];
 
 pub const MINIMUM: [u64; COLUMNS] = [
@@ -68,6 +73,9 @@ pub const MINIMUM: [u64; COLUMNS] = [
     0,
     0,
     1,
+    // supplier, parent
+    1,
+    1,
 ];
 
 pub const MAXIMUM: [u64; COLUMNS] = [
@@ -77,7 +85,7 @@ pub const MAXIMUM: [u64; COLUMNS] = [
     10000,
     // unit, supplier, mw, cost, dfax
     9999,
-    999,
+    HIGHEST_SUPPLIER,
     100000,
     HIGHEST_COST,
     10000,
@@ -91,6 +99,9 @@ pub const MAXIMUM: [u64; COLUMNS] = [
     100000000,
     100000000,
     24,
+    // supplier, parent
+    HIGHEST_SUPPLIER,
+    HIGHEST_SUPPLIER,
 ];
 
 const MINUS: u8 = 0x2D;
@@ -103,6 +114,7 @@ pub fn first_column(file: File) -> usize
         File::Constraint => 0,
         File::Supply => 3,
         File::Schedules => 8,
+        File::Parents => 17,
     }
 }
 

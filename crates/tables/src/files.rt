@@ -19,6 +19,7 @@ pub enum File {
     Constraint,
     Supply,
     Schedules,
+    Parents,
 }
 
 // What reading a file gives: how many rows it has, or why it is refused.
@@ -34,6 +35,7 @@ pub fn number(file: File) -> u64
         File::Constraint => 1,
         File::Supply => 2,
         File::Schedules => 3,
+        File::Parents => 5,
     }
 }
 
@@ -44,6 +46,7 @@ pub fn width(file: File) -> usize
         File::Constraint => 3,
         File::Supply => 5,
         File::Schedules => 9,
+        File::Parents => 2,
     }
 }
 
@@ -54,6 +57,7 @@ pub fn fewest_rows(file: File) -> usize
         File::Constraint => 1,
         File::Supply => 0,
         File::Schedules => 0,
+        File::Parents => 0,
     }
 }
 
@@ -64,5 +68,6 @@ pub fn most_rows(file: File) -> usize
         File::Constraint => 1,
         File::Supply => 256,
         File::Schedules => 1024,
+        File::Parents => 64,
     }
 }

@@ -1,10 +1,10 @@
 """The offer capping engine as Python programs call it, so that a seller's script can check its files before it sends them.
 
     day = capping.Day.fresh()
-    answer = day.study(constraint, supply, schedules)
+    answer = day.study(constraint, supply, schedules, parents=parents)
 
-Files are bytes, and so is the answer; what is refused raises `Refused`. Nothing is kept but in a `Day`, so threads may call at
-the same time. `python3 -m capping --help` is the same for people.
+Files are bytes, and so is the answer; without `parents` no suppliers are affiliated. What is refused raises `Refused`. Nothing
+is kept but in a `Day`, so threads may call at the same time. `python3 -m capping --help` is the same for people.
 """
 from .calls import TEST_REFUSED, VERDICTS, check, study, test
 from .day import Day

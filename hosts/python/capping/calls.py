@@ -10,15 +10,16 @@ VERDICTS = {0: "P", 1: "F"}
 
 
 def check(constraint, supply, schedules):
-    """Checks the three files of a study, each as bytes: 0, or the number of the first refusal, 1 to 9, that a study of them
-    gives."""
+    """Checks three files of a study, each as bytes: 0, or the number of the first refusal, 1 to 9, that a study of them without
+    parents gives."""
     return functions().capping_check(*lent(constraint, supply, schedules))
 
 
-def study(constraint, supply, schedules, room=LONGEST_ANSWER):
-    """Studies the three files, each as bytes, on a fresh day, and answers the answer file. `room` is how long a buffer is
-    lent to it; the longest answer always fits."""
-    return answer_of(functools.partial(functions().capping_study, *lent(constraint, supply, schedules)), room)
+def study(constraint, supply, schedules, room=LONGEST_ANSWER, *, parents=b""):
+    """Studies the files, each as bytes, on a fresh day, and answers the answer file. `room` is how long a buffer is lent to it;
+    the longest answer always fits. Without `parents` no suppliers are affiliated."""
+    files = lent(constraint, supply, schedules, parents)
+    return answer_of(functools.partial(functions().capping_study, *files), room)
 
 
 def test(amounts, place, need):

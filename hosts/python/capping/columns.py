@@ -1,4 +1,4 @@
-"""The three files as document 01 has them: the name of each, how many rows it may have, and its columns with their ranges.
+"""The files as documents 01 and 02 have them: the name of each, how many rows it may have, and its columns with their ranges.
 
 The engine has its own table; this one is for telling people, and tests hold it to the engine.
 """
@@ -54,6 +54,7 @@ class File(typing.NamedTuple):
 
 
 UNIT = Column("unit", 1, 9999)
+SUPPLIER = Column("supplier", 1, 999)
 HOUR = Column("hour", 0, 23)
 
 CONSTRAINT = File(
@@ -66,7 +67,7 @@ SUPPLY = File(
     "at most 256",
     (
         UNIT,
-        Column("supplier", 1, 999),
+        SUPPLIER,
         Column("mw", 1, 100000, "tenths of a MW"),
         Column("cost", 0, 200000, "cents per MWh"),
         Column("dfax", -10000, 10000, "ten-thousandths", SIGNED),
@@ -87,5 +88,9 @@ SCHEDULES = File(
         Column("minrun", 1, 24, "hours"),
     ),
 )
-FILES = (CONSTRAINT, SUPPLY, SCHEDULES)
-"""The files by rising number; the first is file 1."""
+PARENTS = File("parents.csv", "at most 64", (SUPPLIER, SUPPLIER._replace(name="parent")))
+
+FILES = {"constraint": CONSTRAINT, "supply": SUPPLY, "schedules": SCHEDULES, "parents": PARENTS}
+"""The files of a study, by what a study calls them."""
+CHECKED = ("constraint", "supply", "schedules")
+"""Those of them that a check takes."""

@@ -3,7 +3,7 @@ import contextlib
 import os
 import sys
 
-from . import usage
+from . import columns, usage
 from .day import Day
 from .explain import explained
 from .files import TooLong, Unreadable, naming, read_day, read_folder, replacing
@@ -37,20 +37,20 @@ def _say(status, words):
 
 
 def _check(asked):
-    _studied(Day.fresh(), asked.folder)
-    _print(b"nothing to refuse\n")
+    _studied(Day.fresh(), read_folder(asked.folder, columns.CHECKED))
+    _print(b"nothing to refuse in constraint.csv, supply.csv and schedules.csv\n")
 
 
 def _study(asked):
     day = Day.fresh() if asked.day is None else _day_so_far(asked.day)
-    answer = _studied(day, asked.folder)
+    answer = _studied(day, read_folder(asked.folder, columns.FILES))
     with contextlib.nullcontext() if asked.day is None else replacing(asked.day, day):
         _print(answer)
 
 
 def _release(asked):
     day = read_day(asked.day)
-    with _telling((), day):
+    with _telling({}, day):
         day.release(asked.unit)
     with replacing(asked.day, day):
         pass
@@ -66,10 +66,9 @@ def _day_so_far(path):
         return Day.fresh()
 
 
-def _studied(day, folder):
-    files = read_folder(folder)
+def _studied(day, files):
     with _telling(files, day):
-        return day.study(*files)
+        return day.study(**files)
 
 
 @contextlib.contextmanager

@@ -61,10 +61,10 @@ class Day:
         """The running units, each with unit, kind and schedule, at most 64, as the engine sees them."""
         return seen(self._cells).running
 
-    def study(self, constraint, supply, schedules, room=LONGEST_ANSWER):
-        """Studies the three files, each as bytes, on this day, and answers the answer file. `room` is how long a buffer is
-        lent to it; the longest answer always fits."""
-        files = lent(constraint, supply, schedules)
+    def study(self, constraint, supply, schedules, room=LONGEST_ANSWER, *, parents=b""):
+        """Studies the files, each as bytes, on this day, and answers the answer file. `room` is how long a buffer is lent to
+        it; the longest answer always fits. Without `parents` no suppliers are affiliated."""
+        files = lent(constraint, supply, schedules, parents)
         cells = self._copied()
         answer = answer_of(functools.partial(functions().capping_day_study, cells, *files), room)
         self._cells = cells

@@ -34,11 +34,12 @@ def functions():
 
 def _typed(library):
     number, length = ctypes.c_uint64, ctypes.c_size_t
-    files = [ctypes.c_char_p, length] * 3
-    study = [*files, ctypes.c_char_p, length, Report]
+    file = [ctypes.c_char_p, length]
+    check = file * 3
+    study = [*check, *file, ctypes.c_char_p, length, Report]
     amounts = [ctypes.POINTER(number), length]
     for name, takes, answers in (
-        ("capping_check", files, number),
+        ("capping_check", check, number),
         ("capping_study", study, number),
         ("capping_test", [*amounts, number, number, ctypes.POINTER(number)], number),
         ("capping_day_fresh", [DayCells], None),

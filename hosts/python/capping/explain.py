@@ -2,7 +2,7 @@
 
 Assumes that these are the files that were refused, so that they keep every rule that comes before.
 """
-from . import columns, odds
+from . import columns, odds, refusal
 from .records import NotCsv, records
 
 PAGE = "docs/REFUSALS.md"
@@ -16,14 +16,15 @@ OF_THE_DAY = range(20, 25)
 
 
 def explained(refused, files, day):
-    """The lines that say why a study of the files on a day, or a release from it, was refused."""
+    """The lines that say why a study of the files on a day, or a release from it, was refused. The files' bytes are given by
+    what a study calls them."""
     lines = [f"refused with {refused.number}: {refused.meaning}"]
     if refused.file != 0:
-        lines += DETAILS[refused.number](_spot(files, refused.file, refused.place))
+        lines += DETAILS[refused.number](_spot(files, refusal.FILES[refused.file], refused.place))
     if refused.number == HOUR_TOO_EARLY:
-        lines.append(_spot(files, file=1, place=1).line())
+        lines.append(_spot(files, "constraint", place=1).line())
     if refused.number == TOO_MANY_RUNNING:
-        lines.append(_crowd(_spot(files, file=2), day))
+        lines.append(_crowd(_spot(files, "supply"), day))
     if refused.number in OF_THE_DAY:
         lines.append(f"the day: {shown(str(day).encode(), LONGEST_DAY_SHOWN)}")
     return [*lines, f"{PAGE} says how to mend it, under {refused.number}"]
@@ -62,7 +63,7 @@ class Spot:
 
 
 def _spot(files, file, place=0):
-    return Spot(columns.FILES[file - 1], files[file - 1], place)
+    return Spot(columns.FILES[file], files[file], place)
 
 
 def _record(spot):
@@ -120,13 +121,27 @@ def _at_odds(spot):
     return [spot.line(), f"at odds with record {earlier}, which has {words}: {text}"]
 
 
+def _ring(spot):
+    rows = spot.rows()
+    parents = {row["supplier"]: row["parent"] for row in rows[1:]}
+    start = rows[spot.place]["supplier"]
+    chain = [start, parents[start]]
+    while chain[-1] != start:
+        chain.append(parents[chain[-1]])
+    return [spot.line(), f"its chain comes back: {b' -> '.join(chain).decode()}"]
+
+
 def _crowd(spot, day):
     running = {unit for unit, _, _ in day.running}
     filed = {int(row["unit"]) for row in spot.rows()[1:]}
     return f"units that run already: {len(running)}, further units in {spot.file.name}: {len(filed - running)}"
 
 
-ODDS = {columns.SUPPLY.name: odds.between_supply_rows, columns.SCHEDULES.name: odds.between_schedule_rows}
+ODDS = {
+    columns.SUPPLY.name: odds.between_supply_rows,
+    columns.SCHEDULES.name: odds.between_schedule_rows,
+    columns.PARENTS.name: odds.between_parent_rows,
+}
 
 DETAILS = {
     1: _not_csv,
@@ -139,4 +154,6 @@ DETAILS = {
     8: _unit,
     9: _unit,
     21: _unit,
+    35: _at_odds,
+    36: _ring,
 }

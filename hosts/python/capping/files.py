@@ -1,4 +1,4 @@
-"""What the command reads and writes: the three files of a folder, and a day in a file of its own."""
+"""What the command reads and writes: the files of a folder, and a day in a file of its own."""
 import contextlib
 import os
 import secrets
@@ -28,11 +28,11 @@ def naming(name):
         raise OSError(error.errno, error.strerror, str(name)) from error
 
 
-def read_folder(folder):
-    """The bytes of the three files of a folder; one that isn't there is empty."""
+def read_folder(folder, files):
+    """The bytes of these files of a folder, by what a study calls them; one that isn't there is empty."""
     if not folder.is_dir():
         raise Unreadable(f"{folder} isn't a folder")
-    return tuple(_read_or_empty(folder / file.name) for file in columns.FILES)
+    return {file: _read_or_empty(folder / columns.FILES[file].name) for file in files}
 
 
 def _read_or_empty(path):

@@ -1,4 +1,5 @@
-"""What is at odds between two rows of a file, in words, or None: what rows of a unit or a schedule share by document 01.
+"""What is at odds between two rows of a file, in words, or None: what rows of a unit or a schedule share by document 01, and
+that a supplier has one parent by document 02.
 
 A row is its fields by their columns' names.
 """
@@ -18,6 +19,12 @@ def between_schedule_rows(row, earlier):
     if row["hour"] == earlier["hour"]:
         return "the same hour of the same schedule"
     return _another(("kind", "startup", "minrun"), "schedule", row, earlier)
+
+
+def between_parent_rows(row, earlier):
+    if row["supplier"] != earlier["supplier"]:
+        return None
+    return f"parent {earlier['parent'].decode()} for supplier {earlier['supplier'].decode()}"
 
 
 def _another(names, whose, row, earlier):

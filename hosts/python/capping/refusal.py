@@ -1,6 +1,6 @@
 """Refusals, and what their numbers say in plain words."""
 
-FILES = {1: "constraint", 2: "supply", 3: "schedules"}
+FILES = {1: "constraint", 2: "supply", 3: "schedules", 5: "parents"}
 PLACE_IS_A_UNIT = (8, 9, 21)
 PLACE_IS_THE_FILE = (1, 4)
 MEANINGS = {
@@ -20,12 +20,14 @@ MEANINGS = {
     22: "more than 64 units would run",
     23: "the unit to release isn't running",
     24: "the day is ill-formed",
+    35: "a supplier is given two parents",
+    36: "a chain of parents returns to its start",
 }
 
 
 class Refused(Exception):
-    """Why a call was refused: document 01's number, the file (1 constraint, 2 supply, 3 schedules, 0 none) and the place in
-    it, a record (the header is 0) or, for 8, 9 and 21, a unit's number."""
+    """Why a call was refused: the number by documents 01 and 02, the file (1 constraint, 2 supply, 3 schedules, 5 parents,
+    0 none) and the place in it, a record (the header is 0) or, for 8, 9 and 21, a unit's number."""
 
     def __init__(self, number, file=0, place=0):
         self.number = number

@@ -8,6 +8,10 @@ FOLDER = """
 FOLDER holds constraint.csv, supply.csv and schedules.csv, each of at most
 64 KiB; one that isn't there counts as empty.
 """
+PARENTS = """
+A study reads parents.csv too where FOLDER has it, with the same limit: the
+suppliers that are affiliated. A check takes the three files alone.
+"""
 DAY = """
 FILE holds a day on one line: the hour of its last study (n for none), a
 semicolon, and the running units with kind and schedule, as in
@@ -29,7 +33,7 @@ LAYOUT = {"formatter_class": argparse.RawDescriptionHelpFormatter, "allow_abbrev
 
 def read(arguments):
     """What is asked: the name of a command with its folder, day and unit. Wrong usage and --help end the program."""
-    epilog = FOLDER + DAY + REFUSALS
+    epilog = FOLDER + PARENTS + DAY + REFUSALS
     parser = argparse.ArgumentParser(prog="python3 -m capping", description=DESCRIPTION, epilog=epilog, **LAYOUT)
     commands = parser.add_subparsers(dest="command", metavar="COMMAND", required=True)
     _check(commands)
@@ -39,14 +43,15 @@ def read(arguments):
 
 
 def _check(commands):
-    does = "check the files of a folder"
-    command = commands.add_parser("check", help=does, description=does, epilog=FOLDER + REFUSALS, **LAYOUT)
+    does = "check constraint, supply and schedules of a folder"
+    command = commands.add_parser("check", help=does, description=does, epilog=FOLDER + PARENTS + REFUSALS, **LAYOUT)
     _takes_folder(command)
 
 
 def _study(commands):
     does = "study the files of a folder, and print the answer file"
-    command = commands.add_parser("study", help=does, description=does, epilog=FOLDER + DAY + REFUSALS, **LAYOUT)
+    epilog = FOLDER + PARENTS + DAY + REFUSALS
+    command = commands.add_parser("study", help=does, description=does, epilog=epilog, **LAYOUT)
     _takes_folder(command)
     _takes_day(command, "the day to study on and to move on; fresh if FILE isn't there. Without it, a fresh day")
 
@@ -59,7 +64,7 @@ def _release(commands):
 
 
 def _takes_folder(command):
-    command.add_argument("folder", metavar="FOLDER", type=pathlib.Path, help="where the three files are")
+    command.add_argument("folder", metavar="FOLDER", type=pathlib.Path, help="where the files are")
 
 
 def _takes_day(command, words, required=False):

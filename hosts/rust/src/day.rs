@@ -4,7 +4,7 @@ use std::fmt::{self, Debug, Formatter};
 
 use crate::engine::{self, Cells};
 use crate::running::{Running, PLACE_CELLS};
-use crate::{answer_of, Refusal};
+use crate::{answer_of, Files, Refusal};
 
 /// How many cells a day has.
 pub const DAY_CELLS: usize = 195;
@@ -55,27 +55,16 @@ impl Day {
         &self.cells
     }
 
-    /// Studies the three files, and answers the answer file. The day's hour is then the study's, and each of its units runs on the
+    /// Studies the files, and answers the answer file. The day's hour is then the study's, and each of its units runs on the
     /// schedule chosen.
-    pub fn study(
-        &mut self,
-        constraint: &[u8],
-        supply: &[u8],
-        schedules: &[u8],
-    ) -> Result<Vec<u8>, Refusal> {
-        answer_of(|answer| self.study_into(constraint, supply, schedules, answer))
+    pub fn study(&mut self, files: Files) -> Result<Vec<u8>, Refusal> {
+        answer_of(|answer| self.study_into(files, answer))
     }
 
     /// The same, with the answer file written from the start of the buffer: answers its length. Bytes past the answer stay, and a
     /// refused study changes none.
-    pub fn study_into(
-        &mut self,
-        constraint: &[u8],
-        supply: &[u8],
-        schedules: &[u8],
-        answer: &mut [u8],
-    ) -> Result<usize, Refusal> {
-        engine::day_study(&mut self.cells, constraint, supply, schedules, answer)
+    pub fn study_into(&mut self, files: Files, answer: &mut [u8]) -> Result<usize, Refusal> {
+        engine::day_study(&mut self.cells, files, answer)
     }
 
     /// Takes a running unit out.

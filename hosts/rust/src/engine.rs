@@ -1,5 +1,5 @@
 //! The engine's own functions, each behind a call that no safe program can misuse.
-use crate::{Refusal, DAY_CELLS};
+use crate::{Files, Refusal, DAY_CELLS};
 
 /// The cells of a day.
 pub type Cells = [u64; DAY_CELLS];
@@ -24,6 +24,8 @@ extern "C" {
         supply_len: usize,
         schedules: *const u8,
         schedules_len: usize,
+        parents: *const u8,
+        parents_len: usize,
         answer: *mut u8,
         answer_len: usize,
         report: *mut Report,
@@ -47,6 +49,8 @@ extern "C" {
         supply_len: usize,
         schedules: *const u8,
         schedules_len: usize,
+        parents: *const u8,
+        parents_len: usize,
         answer: *mut u8,
         answer_len: usize,
         report: *mut Report,
@@ -71,21 +75,18 @@ pub fn check(constraint: &[u8], supply: &[u8], schedules: &[u8]) -> u64 {
     }
 }
 
-pub fn study(
-    constraint: &[u8],
-    supply: &[u8],
-    schedules: &[u8],
-    answer: &mut [u8],
-) -> Result<usize, Refusal> {
+pub fn study(files: Files, answer: &mut [u8]) -> Result<usize, Refusal> {
     let mut report = [0; 3];
     let count = unsafe {
         capping_study(
-            constraint.as_ptr(),
-            constraint.len(),
-            supply.as_ptr(),
-            supply.len(),
-            schedules.as_ptr(),
-            schedules.len(),
+            files.constraint.as_ptr(),
+            files.constraint.len(),
+            files.supply.as_ptr(),
+            files.supply.len(),
+            files.schedules.as_ptr(),
+            files.schedules.len(),
+            files.parents.as_ptr(),
+            files.parents.len(),
             answer.as_mut_ptr(),
             answer.len(),
             &mut report,
@@ -104,23 +105,19 @@ pub fn day_fresh() -> Cells {
     day
 }
 
-pub fn day_study(
-    day: &mut Cells,
-    constraint: &[u8],
-    supply: &[u8],
-    schedules: &[u8],
-    answer: &mut [u8],
-) -> Result<usize, Refusal> {
+pub fn day_study(day: &mut Cells, files: Files, answer: &mut [u8]) -> Result<usize, Refusal> {
     let mut report = [0; 3];
     let count = unsafe {
         capping_day_study(
             day,
-            constraint.as_ptr(),
-            constraint.len(),
-            supply.as_ptr(),
-            supply.len(),
-            schedules.as_ptr(),
-            schedules.len(),
+            files.constraint.as_ptr(),
+            files.constraint.len(),
+            files.supply.as_ptr(),
+            files.supply.len(),
+            files.schedules.as_ptr(),
+            files.schedules.len(),
+            files.parents.as_ptr(),
+            files.parents.len(),
             answer.as_mut_ptr(),
             answer.len(),
             &mut report,

@@ -1,24 +1,27 @@
-//! The offer capping engine as Rust programs call it: check three files, study them on a fresh day or on one that goes on, release
+//! The offer capping engine as Rust programs call it: check three files, study files on a fresh day or on one that goes on, release
 //! a unit, test one supplier. The engine keeps nothing, and a day is its caller's own, so threads may call at the same time. A call
 //! takes up to 128 KiB of stack.
 //!
 //! ```
-//! let [c, s, h] = ["constraint.csv", "supply.csv", "schedules.csv"].map(|name| std::fs::read(name).unwrap_or_default());
-//! match capping::study(&c, &s, &h) {
+//! use capping::Files;
+//!
+//! let [c, s, h, p] = ["constraint.csv", "supply.csv", "schedules.csv", "parents.csv"]
+//!     .map(|name| std::fs::read(name).unwrap_or_default());
+//! match capping::study(Files::new(&c, &s, &h).with_parents(&p)) {
 //!     Ok(answer) => print!("{}", String::from_utf8_lossy(&answer)),
 //!     Err(refusal) => println!("{refusal}"),
 //! }
 //! ```
 //!
-//! A day goes from one study to the next. A refused call leaves it as it was.
+//! A day goes from one study to the next. A refused call leaves it as it was. A study without parents just doesn't name them.
 //!
 //! ```
-//! use capping::Day;
+//! use capping::{Day, Files};
 //!
 //! # let [c, s, h] = ["hour,relief,cutoff\r\n5,1000,300\r\n", "unit,supplier,mw,cost,dfax\r\n11,1,1000,3000,5000\r\n",
 //! #     "unit,schedule,kind,hour,ecomin,price,noload,startup,minrun\r\n11,2,C,5,100,3000,50000,20000,1\r\n"].map(str::as_bytes);
 //! let mut day = Day::fresh();
-//! let answer = day.study(c, s, h)?;
+//! let answer = day.study(Files::new(c, s, h))?;
 //! let words = day.to_string(); // "5;11:C:2": hour 5, and unit 11 runs on its cost-based schedule 2
 //!
 //! let mut day: Day = words.parse()?;
@@ -30,11 +33,13 @@
 //! ```
 mod day;
 mod engine;
+mod files;
 mod refusal;
 mod running;
 mod words;
 
 pub use day::{Day, DAY_CELLS};
+pub use files::Files;
 pub use refusal::Refusal;
 pub use running::{Kind, Running};
 pub use words::ParseDayError;
@@ -49,7 +54,8 @@ pub enum Verdict {
     F,
 }
 
-/// Checks the three files of a study, each as its bytes: the number of the first refusal, 1 to 9, that a study of them gives.
+/// Checks three files of a study, each as its bytes: the number of the first refusal, 1 to 9, that a study of them without parents
+/// gives.
 pub fn check(constraint: &[u8], supply: &[u8], schedules: &[u8]) -> Result<(), u64> {
     match engine::check(constraint, supply, schedules) {
         0 => Ok(()),
@@ -57,20 +63,15 @@ pub fn check(constraint: &[u8], supply: &[u8], schedules: &[u8]) -> Result<(), u
     }
 }
 
-/// Studies the three files on a fresh day, and answers the answer file.
-pub fn study(constraint: &[u8], supply: &[u8], schedules: &[u8]) -> Result<Vec<u8>, Refusal> {
-    answer_of(|answer| study_into(constraint, supply, schedules, answer))
+/// Studies the files on a fresh day, and answers the answer file.
+pub fn study(files: Files) -> Result<Vec<u8>, Refusal> {
+    answer_of(|answer| study_into(files, answer))
 }
 
-/// Studies the three files on a fresh day, writes the answer file from the start of the buffer, and answers its length. Bytes
-/// past the answer stay, and a refused study changes none.
-pub fn study_into(
-    constraint: &[u8],
-    supply: &[u8],
-    schedules: &[u8],
-    answer: &mut [u8],
-) -> Result<usize, Refusal> {
-    engine::study(constraint, supply, schedules, answer)
+/// Studies the files on a fresh day, writes the answer file from the start of the buffer, and answers its length. Bytes past the
+/// answer stay, and a refused study changes none.
+pub fn study_into(files: Files, answer: &mut [u8]) -> Result<usize, Refusal> {
+    engine::study(files, answer)
 }
 
 /// Tests the supplier at `place`, counted from 0: what is left without it and its two largest others, and the verdict.

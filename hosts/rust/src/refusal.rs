@@ -2,8 +2,8 @@
 use std::error::Error;
 use std::fmt::{self, Display, Formatter};
 
-/// Why a call was refused: document 01's number, the file (1 constraint, 2 supply, 3 schedules, 0 none) and the place in it, a
-/// record (the header is 0) or, for 8, 9 and 21, a unit's number.
+/// Why a call was refused: the number by documents 01 and 02, the file (1 constraint, 2 supply, 3 schedules, 5 parents, 0 none) and
+/// the place in it, a record (the header is 0) or, for 8, 9 and 21, a unit's number.
 #[derive(Clone, Copy, Debug, PartialEq, Eq)]
 pub struct Refusal {
     pub number: u64,
@@ -31,6 +31,8 @@ impl Refusal {
             22 => "more than 64 units would run",
             23 => "the unit to release isn't running",
             24 => "the day is ill-formed",
+            35 => "a supplier is given two parents",
+            36 => "a chain of parents returns to its start",
             _ => "there is no such refusal",
         }
     }
@@ -41,6 +43,7 @@ impl Refusal {
             1 => Some("constraint"),
             2 => Some("supply"),
             3 => Some("schedules"),
+            5 => Some("parents"),
             _ => None,
         }
     }

@@ -14,12 +14,13 @@ fn kept() -> Files {
         constraint: format!("{CONSTRAINT}5,1000,300\r\n"),
         supply: format!("{SUPPLY}{SUPPLY_ROWS}"),
         schedules: format!("{SCHEDULES}{ROW_OF_11}{ROW_OF_12}"),
+        parents: String::new(),
     }
 }
 
 /// 0, or the number of the first refusal.
 fn number(files: Files) -> u64 {
-    let [c, s, h] = files.bytes();
+    let [c, s, h] = files.checked();
     check(c, s, h).err().unwrap_or(0)
 }
 

@@ -1,10 +1,11 @@
-//! Cases of the day, as a caller keeps one and as cells have it. What each must answer was worked from document 01.
+//! Cases of the day, as a caller keeps one and as cells have it. What each must answer was worked from documents
+//! 01 and 02.
 mod common;
 
 use std::thread;
 
 use capping::{Day, Kind, ParseDayError, Refusal, Running, DAY_CELLS, LONGEST_ANSWER};
-use common::{refused, Files, CONSTRAINT, PATTERN, STARRED_ANSWER};
+use common::{refused, Files, AFFILIATED_ANSWER, CONSTRAINT, PATTERN, STARRED_ANSWER};
 
 // Where in the cells what stands.
 const HAS_HOUR: usize = 0;
@@ -36,8 +37,7 @@ fn day(words: &str) -> Day {
 }
 
 fn study(day: &mut Day, files: &Files) -> Result<String, Refusal> {
-    let [c, s, h] = files.bytes();
-    day.study(c, s, h)
+    day.study(files.studied())
         .map(|answer| String::from_utf8(answer).expect("an answer is ASCII"))
 }
 
@@ -66,8 +66,7 @@ fn crowd(count: u64) -> String {
 fn expect_refused_study(day: &Day, files: &Files, room: usize, refusal: Refusal) {
     let mut after = day.clone();
     let mut buffer = [PATTERN; LONGEST_ANSWER];
-    let [c, s, h] = files.bytes();
-    let count = after.study_into(c, s, h, &mut buffer[..room]);
+    let count = after.study_into(files.studied(), &mut buffer[..room]);
     assert_eq!(count, Err(refusal), "{day:?}");
     assert_eq!(after.cells(), day.cells());
     assert!(buffer.iter().all(|&byte| byte == PATTERN));
@@ -144,6 +143,20 @@ fn a_day_goes_from_study_to_study() {
 }
 
 #[test]
+fn affiliated_suppliers_are_tested_as_one() {
+    let files = Files::starred_with("1,2\r\n");
+    let mut day = Day::fresh();
+    assert_eq!(study(&mut day, &files).as_deref(), Ok(AFFILIATED_ANSWER));
+    assert_eq!(day.to_string(), STARRED_DAY);
+    let again = ANSWER_WHILE_RUNNING.replace("14,4,F,5000000,", "14,4,F,0,");
+    assert_eq!(study(&mut day, &files), Ok(again));
+    assert_eq!(
+        study(&mut day, &Files::starred_with("")).as_deref(),
+        Ok(ANSWER_WHILE_RUNNING)
+    );
+}
+
+#[test]
 fn other_running_units_stay() {
     let mut day = day("4;1:C:7,12:M:9,9999:M:99");
     let answer = study(&mut day, &Files::starred());
@@ -157,11 +170,10 @@ fn other_running_units_stay() {
 #[test]
 fn a_buffer_that_just_fits() {
     let files = Files::starred();
-    let [c, s, h] = files.bytes();
     let mut day = day(STARRED_DAY);
     let length = ANSWER_WHILE_RUNNING.len();
     let mut buffer = [PATTERN; LONGEST_ANSWER];
-    let count = day.study_into(c, s, h, &mut buffer[..length]);
+    let count = day.study_into(files.studied(), &mut buffer[..length]);
     let (answer, past) = buffer.split_at(length);
     assert_eq!(count, Ok(length));
     assert_eq!(answer, ANSWER_WHILE_RUNNING.as_bytes());
@@ -189,6 +201,8 @@ fn refused_studies_leave_the_day() {
         constraint: format!("{CONSTRAINT}24,1000,300\r\n"),
         ..Files::starred()
     };
+    let two_parents = Files::starred_with("1,2\r\n1,2\r\n");
+    let ring = Files::starred_with("1,2\r\n2,3\r\n3,2\r\n");
     let room = STARRED_ANSWER.len();
     let full = format!("n;{}", crowd(61));
     let cases = [
@@ -197,6 +211,8 @@ fn refused_studies_leave_the_day() {
         (&full, &starred, room, refused(22, 0, 0)),
         ("-", &starred, room - 1, refused(10, 0, 0)),
         (STARRED_DAY, &wrong_hour, room, refused(3, 1, 1)),
+        (STARRED_DAY, &two_parents, room, refused(35, 5, 2)),
+        ("6;", &ring, room, refused(36, 5, 2)),
     ];
     for (words, files, room, refusal) in cases {
         expect_refused_study(&day(words), files, room, refusal);

@@ -1,36 +1,38 @@
-//! Cases of the study and the test. What each must answer was worked from document 01.
+//! Cases of the study and the test. What each must answer was worked from documents 01 and 02.
 mod common;
 
 use capping::{study, study_into, test, Refusal, Verdict, LONGEST_ANSWER};
-use common::{refused, Files, PATTERN, SCHEDULES, STARRED_ANSWER};
+use common::{refused, Files, AFFILIATED_ANSWER, PATTERN, SCHEDULES, STARRED_ANSWER};
 
 const MOST_AMOUNT: u64 = 1_000_000_000_000;
 
-/// Studies the starred files in a buffer of a length that is filled with the pattern first: what is answered, and the buffer.
-fn study_starred(length: usize) -> (Result<usize, Refusal>, Vec<u8>) {
-    let files = Files::starred();
-    let [c, s, h] = files.bytes();
+/// Studies files in a buffer of a length that is filled with the pattern first: what is answered, and the buffer.
+fn study_in(length: usize, files: &Files) -> (Result<usize, Refusal>, Vec<u8>) {
     let mut buffer = vec![PATTERN; length];
-    let count = study_into(c, s, h, &mut buffer);
+    let count = study_into(files.studied(), &mut buffer);
     (count, buffer)
 }
 
 /// The refusal of files.
 fn told(files: Files) -> Refusal {
-    let [c, s, h] = files.bytes();
-    study(c, s, h).expect_err("refused")
+    study(files.studied()).expect_err("refused")
+}
+
+/// The answer to the starred files with these rows of parents.
+fn answered_with(parents: &str) -> String {
+    let answer = study(Files::starred_with(parents).studied()).expect("accepted");
+    String::from_utf8(answer).expect("an answer is ASCII")
 }
 
 #[test]
 fn the_starred_example() {
-    let files = Files::starred();
-    let [c, s, h] = files.bytes();
-    assert_eq!(study(c, s, h).as_deref(), Ok(STARRED_ANSWER.as_bytes()));
+    let answer = study(Files::starred().studied());
+    assert_eq!(answer.as_deref(), Ok(STARRED_ANSWER.as_bytes()));
 }
 
 #[test]
 fn bytes_past_the_answer_stay() {
-    let (count, buffer) = study_starred(LONGEST_ANSWER);
+    let (count, buffer) = study_in(LONGEST_ANSWER, &Files::starred());
     let (answer, past) = buffer.split_at(STARRED_ANSWER.len());
     assert_eq!(count, Ok(STARRED_ANSWER.len()));
     assert_eq!(answer, STARRED_ANSWER.as_bytes());
@@ -39,7 +41,7 @@ fn bytes_past_the_answer_stay() {
 
 #[test]
 fn a_buffer_one_short() {
-    let (count, buffer) = study_starred(STARRED_ANSWER.len() - 1);
+    let (count, buffer) = study_in(STARRED_ANSWER.len() - 1, &Files::starred());
     assert_eq!(count, Err(refused(10, 0, 0)));
     assert!(buffer.iter().all(|&byte| byte == PATTERN));
 }
@@ -76,6 +78,64 @@ fn refused_studies_in_plain_words() {
 }
 
 #[test]
+fn no_parents() {
+    let files = Files::starred();
+    let [c, s, h] = files.checked();
+    let unnamed = study(capping::Files::new(c, s, h));
+    assert_eq!(unnamed.as_deref(), Ok(STARRED_ANSWER.as_bytes()));
+    assert_eq!(study(files.studied()), unnamed);
+    assert_eq!(answered_with(""), STARRED_ANSWER);
+}
+
+#[test]
+fn affiliated_suppliers_are_tested_as_one() {
+    assert_eq!(answered_with("1,2\r\n"), AFFILIATED_ANSWER);
+    assert_eq!(answered_with("4,900\r\n1,900\r\n"), AFFILIATED_ANSWER);
+    assert_eq!(answered_with("1,5\r\n5,6\r\n2,6\r\n"), AFFILIATED_ANSWER);
+    assert_eq!(answered_with("5,6\r\n"), STARRED_ANSWER);
+}
+
+#[test]
+fn refused_parents() {
+    let cases = [
+        ("1,2\n", refused(1, 5, 0)),
+        ("1,2\r\n3\r\n", refused(2, 5, 2)),
+        ("1,1000\r\n", refused(3, 5, 1)),
+        (&"1,2\r\n".repeat(65), refused(4, 5, 0)),
+        ("1,2\r\n1,2\r\n", refused(35, 5, 2)),
+        ("1,1\r\n2,3\r\n2,4\r\n", refused(35, 5, 3)),
+        ("1,2\r\n2,3\r\n3,2\r\n", refused(36, 5, 2)),
+        ("1,1\r\n", refused(36, 5, 1)),
+    ];
+    for (parents, refusal) in cases {
+        let (count, buffer) = study_in(LONGEST_ANSWER, &Files::starred_with(parents));
+        assert_eq!(count, Err(refusal), "{parents}");
+        assert!(buffer.iter().all(|&byte| byte == PATTERN), "{parents}");
+    }
+    let blank_line = Files {
+        parents: "\r\n".to_string(),
+        ..Files::starred()
+    };
+    assert_eq!(told(blank_line), refused(2, 5, 0));
+}
+
+#[test]
+fn refused_parents_in_plain_words() {
+    assert_eq!(
+        told(Files::starred_with("1,2\r\n1,2\r\n")).to_string(),
+        "refusal 35: a supplier is given two parents (parents, record 2)"
+    );
+    assert_eq!(
+        told(Files::starred_with("1,2\r\n2,3\r\n3,2")).to_string(),
+        "refusal 36: a chain of parents returns to its start (parents, record 2)"
+    );
+    assert_eq!(
+        told(Files::starred_with("1,2\t")).to_string(),
+        "refusal 1: the file isn't CSV by RFC 4180 (parents)"
+    );
+}
+
+#[test]
 fn verdicts() {
     assert_eq!(test(&[4, 3, 2, 1], 3, 2), Ok((2, Verdict::P)));
     assert_eq!(test(&[4, 3, 2, 1], 3, 3), Ok((2, Verdict::F)));
@@ -100,7 +160,7 @@ fn refused_tests() {
 #[test]
 fn words_for_every_number() {
     let no_such = refused(99, 0, 0).meaning();
-    for number in (1..=11).chain(20..=24) {
+    for number in (1..=11).chain(20..=24).chain(35..=36) {
         assert_ne!(refused(number, 0, 0).meaning(), no_such);
     }
 }

@@ -3,24 +3,37 @@
 
 use std::process::ExitCode;
 
-use capping_bench::engine::Engine;
-use peer::{Day, Outcome};
+use capping_bench::engine::{Engine, Files};
+use peer::{Day, Outcome, Rules, WholeDay};
+
+/// The request of document 02 that brings parents.
+const AFFILIATED_OWNERS: u8 = 6;
 
 const PEER: Engine = Engine {
     name: "peer",
-    study: |files, buffer| match peer::study(
-        &Day::fresh(),
-        files.constraint,
-        files.supply,
-        files.schedules,
-        buffer,
-    ) {
-        Outcome::Accepted { written, .. } => written,
-        Outcome::Refused(_) => 0,
+    study: |files, buffer| match files.parents {
+        [] => study_alone(files, buffer),
+        _ => study_affiliated(files, buffer),
     },
-    check: |files| u64::from(peer::check(files.constraint, files.supply, files.schedules)),
+    check: |[constraint, supply, schedules]| u64::from(peer::check(constraint, supply, schedules)),
     rounds_a_call: 1,
 };
+
+/// Without parents: the peer's study by document 01 alone, for which it is tuned.
+fn study_alone(files: &Files, buffer: &mut [u8]) -> usize {
+    match peer::study(&Day::fresh(), files.constraint, files.supply, files.schedules, buffer) {
+        Outcome::Accepted { written, .. } => written,
+        Outcome::Refused(_) => 0,
+    }
+}
+
+/// With parents: its study by any set of requests, here that one.
+fn study_affiliated(files: &Files, buffer: &mut [u8]) -> usize {
+    let three = peer::Files::three(files.constraint, files.supply, files.schedules);
+    let files = peer::Files { parents: files.parents, ..three };
+    let engine = peer::Engine::new(Rules::landed(&[AFFILIATED_OWNERS]));
+    engine.study(&WholeDay::fresh(), &files, buffer).map_or(0, |studied| studied.written)
+}
 
 fn main() -> ExitCode {
     capping_bench::main(Some(PEER))

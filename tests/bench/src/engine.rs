@@ -1,9 +1,9 @@
-//! What is timed: an implementation's study and check of three files.
+//! What is timed: an implementation's study and check.
 
 use capping_model::answer::LONGEST;
 use capping_model::check::check;
 use capping_model::day::Day;
-use capping_model::rules::Files;
+pub use capping_model::rules::Files;
 
 use crate::study::Study;
 
@@ -13,7 +13,7 @@ pub struct Engine {
     /// Studies the files on a fresh day: the answer's length in the buffer, or 0 where it refuses them.
     pub study: fn(&Files, &mut [u8]) -> usize,
     /// 0, or the number of the first refusal.
-    pub check: fn(&Files) -> u64,
+    pub check: fn([&[u8]; 3]) -> u64,
     /// How many rounds have one call; a slow engine is spared some.
     pub rounds_a_call: usize,
 }
@@ -28,6 +28,11 @@ pub enum Call {
 impl Call {
     pub const ALL: [Call; 2] = [Call::Study, Call::Check];
 
+    /// Whether the call takes all files of a study: a check takes no parents.
+    pub fn takes(self, study: &Study) -> bool {
+        matches!(self, Call::Study) || study.parents.is_empty()
+    }
+
     pub fn name(self) -> &'static str {
         match self {
             Call::Study => "study",
@@ -41,9 +46,10 @@ impl Engine {
     pub const OURS: Engine = Engine {
         name: "ours",
         study: |files, buffer| {
-            capping::study_into(files.constraint, files.supply, files.schedules, buffer).unwrap_or(0)
+            let three = capping::Files::new(files.constraint, files.supply, files.schedules);
+            capping::study_into(three.with_parents(files.parents), buffer).unwrap_or(0)
         },
-        check: |files| match capping::check(files.constraint, files.supply, files.schedules) {
+        check: |[constraint, supply, schedules]| match capping::check(constraint, supply, schedules) {
             Ok(()) => 0,
             Err(number) => number,
         },
@@ -60,10 +66,10 @@ impl Engine {
 
     /// That the engine accepts a study and answers it byte for byte as the model does.
     pub fn compare(&self, study: &Study) -> Result<(), String> {
-        let files = study.files.lend();
+        let files = study.lend();
         let differs = |what: &str| Err(format!("{} {what} the study {study}", self.name));
         let answer = self.answer(&files);
-        match (self.check)(&files) {
+        match (self.check)(study.files.lend()) {
             0 if answer.is_empty() => differs("refuses"),
             0 if answer != Engine::MODEL.answer(&files) => differs("has another answer than the model to"),
             0 => Ok(()),
@@ -92,6 +98,17 @@ mod tests {
     #[test]
     fn the_engine_answers_as_the_model() {
         assert_eq!(Engine::OURS.compare(&study()), Ok(()));
+        assert_eq!(Engine::OURS.compare(&Study::make(256, Layout::Affiliated)), Ok(()));
+    }
+
+    #[test]
+    fn an_engine_that_leaves_parents_out_is_not_timed() {
+        let alone = |files: &Files, buffer: &mut [u8]| {
+            (Engine::MODEL.study)(&Files { parents: b"", ..*files }, buffer)
+        };
+        let alone = Engine { study: alone, ..Engine::MODEL };
+        assert_eq!(alone.compare(&study()), Ok(()));
+        assert!(alone.compare(&Study::make(256, Layout::Affiliated)).is_err());
     }
 
     #[test]

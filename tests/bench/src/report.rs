@@ -17,7 +17,7 @@ pub fn of(engines: &[Engine], measured: &[Measured]) -> String {
     tables + &growth(engines, measured)
 }
 
-/// The times of a call on all studies.
+/// The times of a call on all studies that it takes.
 fn times(call: Call, engines: &[Engine], measured: &[Measured]) -> String {
     let calls = |(index, engine): (usize, &Engine)| {
         format!("{} of {}", measured[0].times(index, call).calls(), engine.name)
@@ -33,7 +33,7 @@ fn times(call: Call, engines: &[Engine], measured: &[Measured]) -> String {
         let _ = write!(table, "{:>12}", format!("ours/{}", engine.name));
     }
     table += "     ns/byte\n";
-    for measured in measured {
+    for measured in measured.iter().filter(|one| call.takes(one.study)) {
         table += &line(call, engines.len(), measured);
     }
     table
@@ -56,9 +56,9 @@ fn line(call: Call, engines: usize, measured: &Measured) -> String {
     line
 }
 
-/// How the times grow, layout by layout.
+/// How the times grow, layout by layout of several sizes.
 fn growth(engines: &[Engine], measured: &[Measured]) -> String {
-    let layouts = measured.chunk_by(|a, b| a.study.layout == b.study.layout);
+    let layouts = measured.chunk_by(|a, b| a.study.layout == b.study.layout).filter(|sizes| sizes.len() > 1);
     let tables: String = layouts.map(|sizes| growth_in_layout(engines, sizes)).collect();
     format!("growth: the power of the rows by which the median grows from size to size\n{tables}")
 }

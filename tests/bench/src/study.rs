@@ -1,6 +1,7 @@
-//! The studies: markets made up from a seed as real ones are, of several sizes and in three layouts. A unit has a
-//! few segments of rising cost, a market-based schedule beside its cost-based ones, and some distance to the
-//! constraint. The relief is such that suppliers pass and fail, as far as there are enough of them.
+//! The studies: markets made up from a seed as real ones are, of several sizes and in three layouts, and the largest
+//! with parents. A unit has a few segments of rising cost, a market-based schedule beside its cost-based ones, and
+//! some distance to the constraint. The relief is such that suppliers pass and fail, as far as there are enough of
+//! them.
 
 use std::fmt::{self, Display, Formatter};
 
@@ -9,17 +10,24 @@ use capping_model::generator::random::Random;
 use capping_model::generator::sheet::Sheet;
 use capping_model::market::{eligible, supply_of, Market};
 use capping_model::pivotal::{test_suppliers, Verdict};
-use capping_model::rules::Filing;
-use capping_model::table::{Constraint, Kind, Schedule, Supply};
+use capping_model::rules::{Files, Filing};
+use capping_model::table::{Constraint, Kind, Parent, Schedule, Supply};
 
 const SEED: u64 = 20_260_701;
 
 /// Supply rows of the sizes, the last one the most that there may be.
-const SUPPLY_ROWS: [usize; 6] = [4, 16, 32, 64, 128, 256];
+const SUPPLY_ROWS: [usize; 6] = [4, 16, 32, 64, 128, MOST_SUPPLY_ROWS];
+const MOST_SUPPLY_ROWS: usize = 256;
 
 /// Supply rows of a unit. The largest study has 64 units then, of 32 suppliers.
 const SEGMENTS: usize = 4;
 const UNITS_OF_A_SUPPLIER: usize = 2;
+
+/// Suppliers that have one head, each through a parent of its own: the 32 of the largest study have 64 parents then.
+const SUPPLIERS_OF_A_GROUP: usize = 2;
+
+/// The largest number of a supplier.
+const LAST_SUPPLIER: u64 = 999;
 
 /// How the schedule rows of a unit may fall to its schedules. There are 16 of them, so that the largest study has
 /// 1,024, and as many hours from the study hour to the last.
@@ -40,16 +48,20 @@ pub enum Layout {
     Shuffled,
     /// Unit by unit, every field quoted.
     Quoted,
+    /// Unit by unit, no field quoted, and beside them as many parents as there may be.
+    Affiliated,
 }
 
 impl Layout {
-    pub const ALL: [Layout; 3] = [Layout::Plain, Layout::Shuffled, Layout::Quoted];
+    /// The layouts without parents.
+    pub const ALONE: [Layout; 3] = [Layout::Plain, Layout::Shuffled, Layout::Quoted];
 
     pub fn name(self) -> &'static str {
         match self {
             Layout::Plain => "plain",
             Layout::Shuffled => "shuffled",
             Layout::Quoted => "quoted",
+            Layout::Affiliated => "parents",
         }
     }
 }
@@ -60,12 +72,14 @@ pub struct Study {
     pub supply_rows: usize,
     pub schedule_rows: usize,
     pub files: ThreeFiles,
+    pub parents: Vec<u8>,
 }
 
-/// All studies, layout by layout and by rising size.
+/// All studies without parents, layout by layout and by rising size, then the largest with them.
 pub fn make_all() -> Vec<Study> {
     let sizes = |layout| SUPPLY_ROWS.map(|supply_rows| Study::make(supply_rows, layout));
-    Layout::ALL.into_iter().flat_map(sizes).collect()
+    let alone = Layout::ALONE.into_iter().flat_map(sizes);
+    alone.chain([Study::make(MOST_SUPPLY_ROWS, Layout::Affiliated)]).collect()
 }
 
 impl Study {
@@ -73,17 +87,36 @@ impl Study {
     pub fn make(supply_rows: usize, layout: Layout) -> Study {
         let random = &mut Random::of(SEED, supply_rows as u64);
         let mut filing = make_filing(supply_rows / SEGMENTS, random);
-        if layout == Layout::Shuffled {
-            random.shuffle(&mut filing.supply);
-            random.shuffle(&mut filing.schedules);
+        match layout {
+            Layout::Plain | Layout::Quoted => {}
+            Layout::Shuffled => {
+                random.shuffle(&mut filing.supply);
+                random.shuffle(&mut filing.schedules);
+            }
+            Layout::Affiliated => affiliate(&mut filing, random),
         }
+        Study::of(&filing, layout)
+    }
+
+    /// The study of some rows.
+    fn of(filing: &Filing, layout: Layout) -> Study {
         let sheets = [
             Sheet::constraint(&filing.constraint),
             Sheet::supply(&filing.supply),
             Sheet::schedules(&filing.schedules),
         ];
-        let files = ThreeFiles(sheets.map(|sheet| sheet.join(|_| layout == Layout::Quoted)));
-        Study { layout, supply_rows, schedule_rows: filing.schedules.len(), files }
+        let written = |sheet: Sheet| sheet.join(|_| layout == Layout::Quoted);
+        let parents = match layout {
+            Layout::Affiliated => written(Sheet::parents(&filing.parents)),
+            _ => Vec::new(),
+        };
+        let (supply_rows, schedule_rows) = (filing.supply.len(), filing.schedules.len());
+        Study { layout, supply_rows, schedule_rows, files: ThreeFiles(sheets.map(written)), parents }
+    }
+
+    /// The files as a study takes them.
+    pub fn lend(&self) -> Files<'_> {
+        self.files.beside(&self.parents)
     }
 
     pub fn rows(&self) -> usize {
@@ -91,7 +124,7 @@ impl Study {
     }
 
     pub fn bytes(&self) -> usize {
-        self.files.0.iter().map(Vec::len).sum()
+        self.files.0.iter().map(Vec::len).sum::<usize>() + self.parents.len()
     }
 }
 
@@ -103,11 +136,11 @@ impl Display for Study {
 
 /// The rows of so many units' files.
 fn make_filing(units: usize, random: &mut Random) -> Filing {
-    let suppliers = random.distinct(units.div_ceil(UNITS_OF_A_SUPPLIER), 1, 999);
+    let suppliers = random.distinct(units.div_ceil(UNITS_OF_A_SUPPLIER), 1, LAST_SUPPLIER);
     let mut numbers = random.distinct(units, 1, 9_999);
     numbers.sort();
     let constraint = Constraint { hour: HOUR, relief: 1, cutoff: CUTOFF };
-    let mut filing = Filing { constraint, supply: Vec::new(), schedules: Vec::new() };
+    let mut filing = Filing { constraint, supply: Vec::new(), schedules: Vec::new(), parents: Vec::new() };
     for (index, unit) in numbers.into_iter().enumerate() {
         let cost = random.between(1_800, 6_000);
         filing.supply.extend(make_segments(unit, suppliers[index % suppliers.len()], cost, random));
@@ -115,6 +148,20 @@ fn make_filing(units: usize, random: &mut Random) -> Filing {
     }
     filing.constraint.relief = choose_relief(&mut filing);
     filing
+}
+
+/// Gives every supplier a parent, and each such parent a head, in groups; the relief is one for groups then. None of
+/// the parents is in supply.
+fn affiliate(filing: &mut Filing, random: &mut Random) {
+    let suppliers: Vec<u64> = filing.suppliers().into_iter().collect();
+    let heads = suppliers.len().div_ceil(SUPPLIERS_OF_A_GROUP);
+    let owners = random.distinct_beside(suppliers.len() + heads, 1, LAST_SUPPLIER, &suppliers);
+    let (parents, heads) = owners.split_at(suppliers.len());
+    for (index, (&supplier, &parent)) in suppliers.iter().zip(parents).enumerate() {
+        let head = heads[index / SUPPLIERS_OF_A_GROUP];
+        filing.parents.extend([Parent { supplier, parent }, Parent { supplier: parent, parent: head }]);
+    }
+    filing.constraint.relief = choose_relief(filing);
 }
 
 /// The supply rows of a unit, from a cost upwards. One unit in ten is too far off to be eligible.
@@ -171,11 +218,13 @@ fn choose_relief(filing: &mut Filing) -> u64 {
 
 #[cfg(test)]
 mod tests {
+    use std::collections::BTreeSet;
+
     use super::*;
     use capping_model::generator::sheet::LARGEST_FILE;
 
     fn read(study: &Study) -> Filing {
-        Filing::read(&study.files.lend()).expect("a study that is accepted")
+        Filing::read(&study.lend()).expect("a study that is accepted")
     }
 
     #[test]
@@ -185,6 +234,14 @@ mod tests {
         let filing = read(&sizes);
         assert_eq!((filing.units().len(), filing.suppliers().len()), (64, 32));
         assert_eq!((filing.supply.len(), filing.schedules.len()), (256, 1_024));
+    }
+
+    #[test]
+    fn the_largest_study_with_parents_has_as_many_as_there_may_be() {
+        let filing = read(&Study::make(256, Layout::Affiliated));
+        assert_eq!((filing.supply.len(), filing.schedules.len(), filing.parents.len()), (256, 1_024, 64));
+        let heads: BTreeSet<u64> = filing.heads().into_values().collect();
+        assert_eq!((filing.suppliers().len(), heads.len()), (32, 16));
     }
 
     #[test]
@@ -209,7 +266,7 @@ mod tests {
 
     #[test]
     fn layouts_have_the_same_rows() {
-        let [plain, shuffled, quoted] = Layout::ALL.map(|layout| Study::make(64, layout));
+        let [plain, shuffled, quoted] = Layout::ALONE.map(|layout| Study::make(64, layout));
         assert_eq!(plain.bytes(), shuffled.bytes());
         assert_ne!(plain.files, shuffled.files);
         let fields = 3 * 2 + 5 * (64 + 1) + 9 * (256 + 1);

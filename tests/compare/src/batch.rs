@@ -69,8 +69,8 @@ fn judge(line: &[u8], answer: &str) -> Result<Judged, String> {
 /// The judge of an accepted study, where it is small enough, and the bytes of its answer.
 fn judge_of(line: &[u8], answer: &str) -> Option<(Judge, Vec<u8>)> {
     let hex = answer.strip_prefix("ok ")?.split(' ').next()?;
-    let Case::Study { day, files, .. } = Case::read(line)? else { return None };
-    Some((Judge::of(&files.lend(), &day)?, read_hex(hex).unwrap_or_default()))
+    let Case::Study { day, files, parents, .. } = Case::read(line)? else { return None };
+    Some((Judge::of(&files.beside(&parents), &day)?, read_hex(hex).unwrap_or_default()))
 }
 
 impl Judged {

@@ -6,6 +6,9 @@ use capping_model::case::{read_hex, Case};
 
 use crate::run::{Asked, Run};
 
+/// The files of a study; a check has the first three.
+const FILES: [&str; 4] = ["constraint", "supply", "schedules", "parents"];
+
 /// A difference: the case and both answers.
 pub fn show_difference(run: &Run, asked: &Asked, expected: &str, answer: &str) -> String {
     let mut report = show_case(run, asked);
@@ -21,12 +24,19 @@ pub fn show_case(run: &Run, asked: &Asked) -> String {
     let line = String::from_utf8_lossy(&asked.line);
     let mut report =
         format!("case {index} of seed {seed} (generate {seed} 1 {index})\n  {}\n", shortened(&line));
-    if let Some(Case::Study { files, .. } | Case::Check { files }) = Case::read(&asked.line) {
-        for (name, file) in ["constraint", "supply", "schedules"].iter().zip(&files.0) {
-            let _ = writeln!(report, "{name}\n{}", readable(file));
-        }
+    for (name, file) in FILES.iter().zip(files_of(&asked.line)) {
+        let _ = writeln!(report, "{name}\n{}", readable(&file));
     }
     report
+}
+
+/// The files of a case, in the order of their names.
+fn files_of(line: &[u8]) -> Vec<Vec<u8>> {
+    match Case::read(line) {
+        Some(Case::Study { files, parents, .. }) => files.0.into_iter().chain([parents]).collect(),
+        Some(Case::Check { files }) => files.0.to_vec(),
+        _ => Vec::new(),
+    }
 }
 
 /// The answer file of an accepted study as text.
@@ -56,5 +66,24 @@ fn shortened(line: &str) -> String {
     match line.char_indices().nth(MOST) {
         Some((end, _)) => format!("{}... ({} bytes)", &line[..end], line.len()),
         None => line.to_string(),
+    }
+}
+
+#[cfg(test)]
+mod tests {
+    use super::*;
+    use crate::asking::Engine;
+
+    fn show(line: &str) -> String {
+        let run = Run { seed: 7, count: 1, common: false, engine: Engine::Program("none".to_string()) };
+        show_case(&run, &Asked { index: 0, line: line.as_bytes().to_vec() })
+    }
+
+    #[test]
+    fn every_file_of_a_case_is_shown() {
+        let files = "constraint\n  a\nsupply\n  b\nschedules\n  c\n";
+        assert!(show("study - 61 62 63 64 0").ends_with(&format!("{files}parents\n  d\n")));
+        assert!(show("check 61 62 63").ends_with(files));
+        assert!(show("release - 1").ends_with("release - 1\n"));
     }
 }

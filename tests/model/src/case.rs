@@ -1,15 +1,16 @@
 //! Cases as lines: what a program is asked, one a line, and what it answers, one a line.
 //!
 //! ```text
-//! study DAY C S H BUFLEN   ok ANSWERHEX DAY   or   no NUMBER FILE PLACE
-//! release DAY UNIT         ok DAY             or   no NUMBER FILE PLACE
-//! test NEED PLACE a,b,c    ok LEFT P   or   ok LEFT F   or   no 11 0 0
-//! check C S H              NUMBER
+//! study DAY C S H P BUFLEN   ok ANSWERHEX DAY   or   no NUMBER FILE PLACE
+//! release DAY UNIT           ok DAY             or   no NUMBER FILE PLACE
+//! test NEED PLACE a,b,c      ok LEFT P   or   ok LEFT F   or   no 11 0 0
+//! check C S H                NUMBER
 //! ```
 //!
 //! DAY is `-` for a fresh day or `H;u:k:s,u:k:s`: H the hour or `n` for none, u a unit, k its kind, s
-//! its schedule. C, S and H are the files in lower-case hex, `.` for an empty file; `.` stands for no
-//! amounts too. Whatever isn't in this form is answered by `unreadable case`.
+//! its schedule. C, S, H and P are the files constraint, supply, schedules and parents in lower-case
+//! hex, `.` for an empty file; `.` stands for no amounts too. Whatever isn't in this form is answered by
+//! `unreadable case`.
 
 use std::fmt::{self, Display, Formatter, Write};
 
@@ -37,17 +38,22 @@ pub const SPOILT: &str = "spoilt";
 pub struct ThreeFiles(pub [Vec<u8>; 3]);
 
 impl ThreeFiles {
-    /// The files as an engine takes them.
-    pub fn lend(&self) -> Files<'_> {
-        let [constraint, supply, schedules] = &self.0;
-        Files { constraint, supply, schedules }
+    /// The files as the check takes them.
+    pub fn lend(&self) -> [&[u8]; 3] {
+        self.0.each_ref().map(Vec::as_slice)
+    }
+
+    /// The files as a study takes them, with its parents.
+    pub fn beside<'a>(&'a self, parents: &'a [u8]) -> Files<'a> {
+        let [constraint, supply, schedules] = self.lend();
+        Files { constraint, supply, schedules, parents }
     }
 }
 
 /// What a line asks.
 #[derive(Clone, Debug, PartialEq, Eq)]
 pub enum Case {
-    Study { day: Day, files: ThreeFiles, buffer: u64 },
+    Study { day: Day, files: ThreeFiles, parents: Vec<u8>, buffer: u64 },
     Release { day: Day, unit: u64 },
     Test { need: u64, place: u64, amounts: Vec<u64> },
     Check { files: ThreeFiles },
@@ -67,9 +73,10 @@ impl Case {
         let line = std::str::from_utf8(line).ok()?;
         let words: Vec<&str> = line.split(' ').collect();
         match words[..] {
-            ["study", day, c, s, h, buffer] => Some(Case::Study {
+            ["study", day, c, s, h, p, buffer] => Some(Case::Study {
                 day: read_day(day)?,
                 files: read_files([c, s, h])?,
+                parents: read_hex(p)?,
                 buffer: read_number(buffer).filter(|&length| length <= LONGEST_BUFFER)?,
             }),
             ["release", day, unit] => Some(Case::Release { day: read_day(day)?, unit: read_number(unit)? }),
@@ -86,7 +93,7 @@ impl Case {
     /// What the model answers.
     pub fn answer(self) -> String {
         match self {
-            Case::Study { day, files, buffer } => answer_study(day, &files, buffer),
+            Case::Study { day, files, parents, buffer } => answer_study(day, &files.beside(&parents), buffer),
             Case::Release { day, unit } => match day.release(unit) {
                 (day, Ok(())) => format!("ok {day}"),
                 (_, Err(refusal)) => refusal.to_string(),
@@ -95,16 +102,16 @@ impl Case {
                 Ok(tested) => format!("ok {} {}", tested.left, tested.verdict.letter()),
                 Err(refusal) => refusal.to_string(),
             },
-            Case::Check { files } => check(&files.lend()).to_string(),
+            Case::Check { files } => check(files.lend()).to_string(),
         }
     }
 }
 
 /// A study in a buffer that was filled with a pattern first.
-fn answer_study(day: Day, files: &ThreeFiles, buffer: u64) -> String {
+fn answer_study(day: Day, files: &Files, buffer: u64) -> String {
     let pattern: Vec<u8> = (0..buffer).map(|place| (place * 7 + 3) as u8).collect();
     let mut lent = pattern.clone();
-    let (next, result) = day.study(&files.lend(), &mut lent);
+    let (next, result) = day.study(files, &mut lent);
     let written = *result.as_ref().unwrap_or(&0);
     if lent[written..] != pattern[written..] {
         return SPOILT.to_string();
@@ -148,7 +155,9 @@ impl Display for ThreeFiles {
 impl Display for Case {
     fn fmt(&self, out: &mut Formatter) -> fmt::Result {
         match self {
-            Case::Study { day, files, buffer } => write!(out, "study {day} {files} {buffer}"),
+            Case::Study { day, files, parents, buffer } => {
+                write!(out, "study {day} {files} {} {buffer}", Hex(parents))
+            }
             Case::Release { day, unit } => write!(out, "release {day} {unit}"),
             Case::Test { need, place, amounts } if amounts.is_empty() => write!(out, "test {need} {place} ."),
             Case::Test { need, place, amounts } => {
@@ -267,7 +276,7 @@ mod tests {
         assert_eq!(ask("test 3 3 4,3,2,1"), "ok 2 F");
         assert_eq!(ask("test 3 0 ."), "no 11 0 0");
         assert_eq!(ask("check . . ."), "2");
-        assert_eq!(ask("study - . . . 4096"), "no 2 1 0");
+        assert_eq!(ask("study - . . . . 4096"), "no 2 1 0");
     }
 
     #[test]
@@ -276,11 +285,12 @@ mod tests {
             "",
             " ",
             "study",
-            "study - . . .",
-            "study - . . . 4097",
-            "study - . . . 1 1",
-            "study - 0 . . 1",
-            "study - 0g . . 1",
+            "study - . . . .",
+            "study - . . . 1",
+            "study - . . . . 4097",
+            "study - . . . . 1 1",
+            "study - 0 . . . 1",
+            "study - . . . 0g 1",
             "release 5;18446744073709551616:C:1 7",
             "release 5;1:X:1 7",
             "release 5;1:M 7",
@@ -301,9 +311,13 @@ mod tests {
 
     #[test]
     fn cases_print_as_they_are_read() {
-        for line in
-            ["study - 0aff . 00 12", "release 7;1:M:2,3:C:4 5", "test 1 2 3,4", "test 0 0 .", "check . . 61"]
-        {
+        for line in [
+            "study - 0aff . 00 0d0a 12",
+            "release 7;1:M:2,3:C:4 5",
+            "test 1 2 3,4",
+            "test 0 0 .",
+            "check . . 61",
+        ] {
             assert_eq!(Case::read(line.as_bytes()).unwrap().to_string(), line);
         }
     }

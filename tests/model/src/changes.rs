@@ -7,6 +7,7 @@ use std::ops::Range;
 use crate::judge::Judge;
 
 /// Columns of the answer file.
+const SUPPLIER: usize = 1;
 const VERDICT: usize = 2;
 const LEFT: usize = 3;
 const SCHEDULE: usize = 4;
@@ -76,10 +77,11 @@ fn neighbours(field: &[u8]) -> Vec<Vec<u8>> {
     }
 }
 
-/// Numbers that would be true of another removal or another schedule.
+/// Numbers that would be true of another member of the group, another removal or another schedule.
 fn elsewhere(column: usize, index: usize, judge: &Judge) -> BTreeSet<u64> {
     match column {
-        LEFT => judge.removals(index).iter().copied().collect(),
+        SUPPLIER => judge.group(index).clone(),
+        LEFT => judge.removals(index).into_iter().collect(),
         SCHEDULE => judge.schedules(index).iter().map(|schedule| schedule.number).collect(),
         COST => judge.schedules(index).iter().map(|schedule| schedule.cost).collect(),
         _ => BTreeSet::new(),
@@ -157,15 +159,28 @@ mod tests {
 
     #[test]
     fn every_change_of_the_starred_answer_is_rejected() {
-        let bytes = Bytes::starred();
+        for bytes in [Bytes::starred(), Bytes::starred().with_parents(&["1,2", "4,900"])] {
+            let mut buffer = [0; LONGEST];
+            let length = Day::fresh().study(&bytes.files(), &mut buffer).1.unwrap();
+            let judge = Judge::of(&bytes.files(), &Day::fresh()).unwrap();
+            assert_eq!(judge.weigh(&buffer[..length]), Ok(()));
+            let changes = changed(&buffer[..length], &judge);
+            assert!(changes.len() > 500, "{}", changes.len());
+            for change in changes {
+                assert!(judge.weigh(&change).is_err(), "{}", String::from_utf8_lossy(&change));
+            }
+        }
+    }
+
+    #[test]
+    fn the_head_and_the_amount_without_groups_are_among_the_changes() {
+        let bytes = Bytes::starred().with_parents(&["1,2", "4,900"]);
         let mut buffer = [0; LONGEST];
         let length = Day::fresh().study(&bytes.files(), &mut buffer).1.unwrap();
         let judge = Judge::of(&bytes.files(), &Day::fresh()).unwrap();
-        assert_eq!(judge.weigh(&buffer[..length]), Ok(()));
         let changes = changed(&buffer[..length], &judge);
-        assert!(changes.len() > 500, "{}", changes.len());
-        for change in changes {
-            assert!(judge.weigh(&change).is_err(), "{}", String::from_utf8_lossy(&change));
+        for row in ["\r\n14,900,F,0,1,M,500000\r\n", "\r\n14,4,F,5000000,1,M,500000\r\n"] {
+            assert!(changes.iter().any(|change| change.ends_with(row.as_bytes())), "{row}");
         }
     }
 

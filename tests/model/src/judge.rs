@@ -1,8 +1,9 @@
 //! The judge: any bytes laid beside an answer file, weighed by the words of demand 3.
 //!
 //! It takes the demand at its word and shares nothing with the model but the reading of the files:
-//! every removal is tried, costs are brought to one denominator and sorted, and schedules are
-//! compared one with another. So it is slow, and meant for small studies.
+//! groups are joined row by row of the parents, every removal is tried, costs are brought to one
+//! denominator and sorted, and schedules are compared one with another. So it is slow, and meant for
+//! small studies.
 
 use std::collections::{BTreeMap, BTreeSet};
 
@@ -16,6 +17,9 @@ pub const SUPPLIERS: usize = 6;
 
 /// The header record of the fixed layout, with its end.
 const HEADER: &[u8] = b"unit,supplier,verdict,left,schedule,kind,cost\r\n";
+
+/// Suppliers that count as one, with those among them that aren't in the supply file.
+type Group = BTreeSet<u64>;
 
 /// What an accepted study asks of the bytes beside its answer file.
 pub struct Judge {
@@ -32,8 +36,12 @@ struct Unit {
     supplier: u64,
     has_eligible_row: bool,
     has_relevant_row: bool,
+    /// Its supplier and all that are affiliated with it.
+    group: Group,
     /// What each removal leaves.
     removals: Vec<u64>,
+    /// What each removal would leave if it took single suppliers away, and not whole groups.
+    removals_of_single_suppliers: Vec<u64>,
     schedules: Vec<Offered>,
     /// The eligible schedules where the unit is exposed, and where it isn't.
     eligible_exposed: Vec<Offered>,
@@ -121,9 +129,16 @@ impl Judge {
         &self.units[row].schedules
     }
 
-    /// What the removals of a row leave, for making up answers that show another amount.
-    pub fn removals(&self, row: usize) -> &[u64] {
-        &self.units[row].removals
+    /// What removals of a row leave, with and without a regard for groups, for making up answers that
+    /// show another amount.
+    pub fn removals(&self, row: usize) -> Vec<u64> {
+        let Unit { removals, removals_of_single_suppliers, .. } = &self.units[row];
+        [&removals[..], removals_of_single_suppliers].concat()
+    }
+
+    /// The group of a row's supplier, for making up answers that show another of its members.
+    pub fn group(&self, row: usize) -> &BTreeSet<u64> {
+        &self.units[row].group
     }
 }
 
@@ -140,12 +155,15 @@ impl Unit {
         let day_has = day.running.iter().find(|running| running.unit == number);
         let schedules = offered(number, filing, day_has.is_some());
         let on_cost = day_has.is_some_and(|running| running.kind == Kind::C);
+        let groups = groups(filing);
         Unit {
             number,
             supplier,
             has_eligible_row: eligible.iter().any(of_unit),
             has_relevant_row: relevant.iter().any(of_unit),
-            removals: removals(supplier, &filing.suppliers(), relevant),
+            removals: removals(supplier, &groups, relevant),
+            removals_of_single_suppliers: removals(supplier, &single(&filing.suppliers()), relevant),
+            group: groups.into_iter().find(|group| group.contains(&supplier)).unwrap_or_default(),
             eligible_exposed: eligible_schedules(&schedules, on_cost, true),
             eligible_otherwise: eligible_schedules(&schedules, on_cost, false),
             schedules,
@@ -223,18 +241,41 @@ fn capped(cost: u64) -> u64 {
     (cost * 11 / 10).min(cost + 10_000).min(200_000)
 }
 
-/// What each removal leaves: "a removal takes away the row's supplier together with none, one or two
-/// other suppliers", and leaves "the effective supply, added up, of the relevant rows of every
-/// supplier not removed".
-fn removals(supplier: u64, suppliers: &BTreeSet<u64>, relevant: &[Supply]) -> Vec<u64> {
-    let others: Vec<u64> = suppliers.iter().copied().filter(|&other| other != supplier).collect();
-    let mut removed = vec![vec![supplier]];
-    for (index, &one) in others.iter().enumerate() {
-        removed.push(vec![supplier, one]);
-        removed.extend(others[..index].iter().map(|&two| vec![supplier, one, two]));
+/// The groups that have a supplier of the supply file: each number is by itself at first, and each row
+/// of the parents joins the two groups that it names.
+fn groups(filing: &Filing) -> Vec<Group> {
+    let suppliers = filing.suppliers();
+    let named = filing.parents.iter().flat_map(|row| [row.supplier, row.parent]);
+    let mut groups = single(&named.chain(suppliers.iter().copied()).collect());
+    for row in &filing.parents {
+        let joins = |group: &Group| group.contains(&row.supplier) || group.contains(&row.parent);
+        let (joined, mut apart): (Vec<Group>, Vec<Group>) = groups.into_iter().partition(joins);
+        apart.push(joined.into_iter().flatten().collect());
+        groups = apart;
     }
-    let leaves = |removed: Vec<u64>| {
-        let stays = |row: &&Supply| !removed.contains(&row.supplier);
+    groups.retain(|group| !group.is_disjoint(&suppliers));
+    groups
+}
+
+/// Each supplier by itself.
+fn single(suppliers: &BTreeSet<u64>) -> Vec<Group> {
+    suppliers.iter().map(|&supplier| Group::from([supplier])).collect()
+}
+
+/// What each removal leaves: "a removal takes away the row's supplier together with none, one or two
+/// other suppliers", where "\"other supplier\" means another group; a removal takes away whole groups, his
+/// own included". It leaves "the effective supply, added up, of the relevant rows of every supplier not
+/// removed".
+fn removals(supplier: u64, groups: &[Group], relevant: &[Supply]) -> Vec<u64> {
+    let (own, others): (Vec<&Group>, Vec<&Group>) =
+        groups.iter().partition(|group| group.contains(&supplier));
+    let mut removed = vec![own.clone()];
+    for (index, one) in others.iter().enumerate() {
+        removed.push([&own[..], &[one]].concat());
+        removed.extend(others[..index].iter().map(|two| [&own[..], &[one, two]].concat()));
+    }
+    let leaves = |removed: Vec<&Group>| {
+        let stays = |row: &&Supply| !removed.iter().any(|group| group.contains(&row.supplier));
         supply(&relevant.iter().filter(stays).copied().collect::<Vec<_>>())
     };
     removed.into_iter().map(leaves).collect()
@@ -361,6 +402,36 @@ mod tests {
     #[test]
     fn at_equal_cost_the_larger_number_is_rejected() {
         assert_eq!(weigh("12,2,F,0,1,M,330000", "12,2,F,0,2,C,330000"), Err("another schedule comes before"));
+    }
+
+    #[test]
+    fn a_removal_takes_whole_groups_and_the_supplier_is_the_filed_one() {
+        let weigh = |row: &str, parents: &[&str]| {
+            let bytes = Bytes::starred().with_parents(parents);
+            let judge = Judge::of(&bytes.files(), &Day::fresh()).unwrap();
+            judge.weigh([&STARRED[..4], &[row, ""]].concat().join("\r\n").as_bytes())
+        };
+        let (alone, grouped) = ("14,4,F,5000000,1,M,500000", "14,4,F,0,1,M,500000");
+        for parents in [&["1,2"][..], &["3,7", "2,7"], &["1,900", "4,900"], &["4,5", "5,6", "6,3"]] {
+            assert_eq!(weigh(grouped, parents), Ok(()), "{parents:?}");
+            assert_eq!(weigh(alone, parents), Err("a removal leaves less"), "{parents:?}");
+            assert_eq!(weigh("14,9,F,0,1,M,500000", parents), Err("not its supplier"), "{parents:?}");
+        }
+        for parents in [&["1,900"][..], &["900,901"], &[]] {
+            assert_eq!(weigh(alone, parents), Ok(()), "{parents:?}");
+            assert_eq!(weigh(grouped, parents), Err("an amount that no removal leaves"), "{parents:?}");
+        }
+    }
+
+    #[test]
+    fn groups_are_joined_in_any_order_of_rows() {
+        let joined = |parents: &[&str]| {
+            let bytes = Bytes::starred().with_parents(parents);
+            groups(&Filing::read(&bytes.files()).unwrap())
+        };
+        assert_eq!(joined(&["1,2", "8,9"]), [Group::from([3]), Group::from([4]), Group::from([1, 2])]);
+        let all = Group::from([1, 2, 3, 4, 7, 8]);
+        assert_eq!(joined(&["1,7", "2,8", "3,8", "7,2", "8,4"]), [all]);
     }
 
     #[test]

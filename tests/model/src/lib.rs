@@ -1,4 +1,5 @@
-//! The offer capping engine, written down from document 01 and from nothing else.
+//! The offer capping engine, written down from document 01, with request F-6 of document 02, and from
+//! nothing else.
 //!
 //! It is a model: every function says one sentence of the paper, nothing is tuned, and whoever
 //! doubts an engine can read here what the paper asks. The modules stand in the paper's order.
@@ -7,7 +8,8 @@
 //! |---|---|
 //! | [`csv`] | "File syntax is RFC 4180" |
 //! | [`table`] | columns, ranges and the refusals 1, 2, 4 and 3 of one file |
-//! | [`rules`] | what rows must be to each other: the refusals 5 to 9 |
+//! | [`parents`] | affiliated owners: chains, heads, the refusals 35 and 36 |
+//! | [`rules`] | what rows must be to each other: the refusals 5 to 9, 35 and 36 in their order |
 //! | [`market`] | capped offer, eligible supply, clearing cost, relevant market |
 //! | [`pivotal`] | the test of one supplier, within a study and on its own |
 //! | [`choice`] | eligible schedules, their cost, the one taken |
@@ -18,7 +20,8 @@
 //!
 //! What follows isn't in the paper: [`case`] reads and answers cases written as lines, [`judge`]
 //! weighs any answer by the words of demand 3, [`changes`] makes answers for it to reject,
-//! [`generator`] makes cases up, and [`tally`] counts what they reached.
+//! [`generator`] makes cases up, and [`tally`] counts what they reached, by [`grouping`] where suppliers
+//! are affiliated.
 //!
 //! Programs: `model` answers cases, and `generate SEED COUNT` prints them. `tests/compare` holds an
 //! engine against the model on them.
@@ -26,6 +29,7 @@
 pub mod csv;
 pub mod refusal;
 pub mod table;
+pub mod parents;
 pub mod rules;
 pub mod market;
 pub mod pivotal;
@@ -39,4 +43,5 @@ pub mod case;
 pub mod judge;
 pub mod changes;
 pub mod generator;
+pub mod grouping;
 pub mod tally;

@@ -1,6 +1,7 @@
-//! The three pivotal supplier test: what is left without a supplier and the two largest others.
+//! The three pivotal supplier test: what is left without a supplier and the two largest others, where
+//! affiliated suppliers are one.
 
-use std::collections::BTreeMap;
+use std::collections::{BTreeMap, BTreeSet};
 
 use crate::market::{effective_supply, Market};
 use crate::refusal::{refuse_if, Refusal};
@@ -61,23 +62,26 @@ pub fn test(amounts: &[u64], place: u64, need: u64) -> Result<Tested, Refusal> {
     Ok(tested(amounts, place as usize, need))
 }
 
-/// What the test says of every supplier of the files.
+/// What the test says of every supplier of the files: "the head stands in for the supplier in the test",
+/// and "a seller sees the verdict of his group".
 ///
 /// "A supplier with no relevant row is tested with 0 of its own", and where the test cannot be
 /// performed "every verdict is U and left is 0".
 pub fn test_suppliers(filing: &Filing, market: &Market) -> BTreeMap<u64, Tested> {
-    let suppliers: Vec<u64> = filing.suppliers().into_iter().collect();
+    let heads = filing.heads();
     let Some(relevant) = &market.relevant else {
         let untested = Tested { left: 0, verdict: Verdict::U };
-        return suppliers.into_iter().map(|supplier| (supplier, untested)).collect();
+        return heads.into_keys().map(|supplier| (supplier, untested)).collect();
     };
-    let amount = |supplier: &u64| {
-        let own = relevant.iter().filter(|row| row.supplier == *supplier);
+    let groups: BTreeSet<u64> = heads.values().copied().collect();
+    let amount = |group: &u64| {
+        let own = relevant.iter().filter(|row| heads[&row.supplier] == *group);
         own.map(effective_supply).sum()
     };
-    let amounts: Vec<u64> = suppliers.iter().map(amount).collect();
+    let amounts: Vec<u64> = groups.iter().map(amount).collect();
     let verdicts = (0..amounts.len()).map(|place| tested(&amounts, place, market.need));
-    suppliers.into_iter().zip(verdicts).collect()
+    let by_group: BTreeMap<u64, Tested> = groups.into_iter().zip(verdicts).collect();
+    heads.into_iter().map(|(supplier, head)| (supplier, by_group[&head])).collect()
 }
 
 #[cfg(test)]

@@ -1,9 +1,11 @@
-//! What rows must be to each other: refusals 5, 6 and 7 of a file, then 8 and 9 of all three.
+//! What rows must be to each other: refusals 5, 6, 7, 35 and 36 of a file, then 8 and 9 of several.
 
-use std::collections::BTreeSet;
+use std::collections::{BTreeMap, BTreeSet};
 
+use crate::parents::{given_twice, head, ring};
 use crate::refusal::{refuse_where, Refusal};
-use crate::table::{read_constraint, read_schedules, read_supply, Constraint, Kind, Schedule, Supply};
+use crate::table::{read_constraint, read_parents, read_schedules, read_supply};
+use crate::table::{Constraint, Kind, Parent, Schedule, Supply};
 
 /// "At most 64 units, 32 suppliers".
 pub const UNITS: usize = 64;
@@ -12,23 +14,27 @@ pub const SUPPLIERS: usize = 32;
 /// The last hour of a day.
 pub const LAST_HOUR: u64 = 23;
 
-/// The three files as bytes.
+/// The files of a study as bytes.
 #[derive(Clone, Copy)]
 pub struct Files<'a> {
     pub constraint: &'a [u8],
     pub supply: &'a [u8],
     pub schedules: &'a [u8],
+    pub parents: &'a [u8],
 }
 
-/// The three files as read, once nothing in them is refused.
+/// The files of a study as read, once nothing in them is refused.
 pub struct Filing {
     pub constraint: Constraint,
     pub supply: Vec<Supply>,
     pub schedules: Vec<Schedule>,
+    pub parents: Vec<Parent>,
 }
 
 impl Filing {
-    /// Reads the files: "file by file 1, 2, 4, 3, 5, 6, 7, each over the whole file; then 8, 9".
+    /// Reads the files: "file by file 1, 2, 4, 3, 5, 6, 7, each over the whole file; then 8, 9". Those of
+    /// the parents stand behind 7: "35 a supplier given two parents, and then with 36 a chain that returns
+    /// to its start", and "1 to 4 apply before them".
     pub fn read(files: &Files) -> Result<Filing, Refusal> {
         let constraint = read_constraint(files.constraint)?;
 
@@ -40,7 +46,11 @@ impl Filing {
         refuse_where(schedules_at_odds(&schedules), 6, 3)?;
         refuse_where(stray(&schedules, &supply), 7, 3)?;
 
-        let filing = Filing { constraint, supply, schedules };
+        let parents = read_parents(files.parents)?;
+        refuse_where(given_twice(&parents), 35, 5)?;
+        refuse_where(ring(&parents), 36, 5)?;
+
+        let filing = Filing { constraint, supply, schedules, parents };
         refuse_where(filing.without_schedule(), 8, 3)?;
         refuse_where(filing.lacking_hour(), 9, 3)?;
         Ok(filing)
@@ -54,6 +64,11 @@ impl Filing {
     /// The suppliers of the supply file, by rising number.
     pub fn suppliers(&self) -> BTreeSet<u64> {
         self.supply.iter().map(|row| row.supplier).collect()
+    }
+
+    /// The suppliers of the supply file, each with the head that "stands in for the supplier in the test".
+    pub fn heads(&self) -> BTreeMap<u64, u64> {
+        self.suppliers().into_iter().map(|supplier| (supplier, head(supplier, &self.parents))).collect()
     }
 
     /// The rows of one unit's schedules.
@@ -128,7 +143,7 @@ fn second_m(row: &Schedule, earlier: &Schedule) -> bool {
 }
 
 /// "First record at odds with an earlier one", whichever earlier one.
-fn first_at_odds<Row>(rows: &[Row], at_odds: impl Fn(&Row, &Row) -> bool) -> Option<u64> {
+pub fn first_at_odds<Row>(rows: &[Row], at_odds: impl Fn(&Row, &Row) -> bool) -> Option<u64> {
     let broken = |&index: &usize| rows[..index].iter().any(|earlier| at_odds(&rows[index], earlier));
     (0..rows.len()).find(broken).map(|index| index as u64 + 1)
 }
@@ -148,8 +163,8 @@ mod tests {
         let file = |header: &str, rows: &[&str]| [&[header], rows].concat().join("\r\n").into_bytes();
         let supply = file("unit,supplier,mw,cost,dfax", supply);
         let schedules = file("unit,schedule,kind,hour,ecomin,price,noload,startup,minrun", schedules);
-        let files =
-            Files { constraint: b"hour,relief,cutoff\r\n22,1,1\r\n", supply: &supply, schedules: &schedules };
+        let constraint = b"hour,relief,cutoff\r\n22,1,1\r\n";
+        let files = Files { constraint, supply: &supply, schedules: &schedules, parents: b"" };
         Filing::read(&files).map_err(|refusal| (refusal.number, refusal.file, refusal.place))
     }
 

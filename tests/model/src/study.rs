@@ -1,4 +1,4 @@
-//! The study: from three files and a day to the answer file and the next day.
+//! The study: from the files and a day to the answer file and the next day.
 
 use crate::answer::{self, Row};
 use crate::choice::{choose, exposed};
@@ -25,7 +25,7 @@ impl Day {
     }
 
     /// The hour and the answer's rows, or the first refusal: "24; then file by file 1, 2, 4, 3, 5, 6,
-    /// 7, each over the whole file; then 8, 9, 20, 21, 22, 10".
+    /// 7, each over the whole file; then 8, 9, 20, 21, 22, 10", with 35 and 36 where the files are read.
     fn rows(&self, files: &Files, lent: usize) -> Result<(u64, Vec<Row>), Refusal> {
         refuse_if(self.ill_formed(), Refusal::nowhere(24))?;
         let filing = Filing::read(files)?;
@@ -91,6 +91,7 @@ pub mod tests {
     const CONSTRAINT: &str = "hour,relief,cutoff";
     const SUPPLY: &str = "unit,supplier,mw,cost,dfax";
     const SCHEDULES: &str = "unit,schedule,kind,hour,ecomin,price,noload,startup,minrun";
+    const PARENTS: &str = "supplier,parent";
 
     const STARRED_SUPPLY: [&str; 4] =
         ["11,1,1000,3000,5000", "12,2,1000,3000,-5000", "13,3,1000,4000,5000", "14,4,2000,2000,200"];
@@ -105,14 +106,25 @@ pub mod tests {
         "14,2,C,5,100,2000,0,0,1",
     ];
 
-    /// The bytes of three files.
-    pub struct Bytes([Vec<u8>; 3]);
+    /// The bytes of a study's files.
+    pub struct Bytes([Vec<u8>; 4]);
+
+    /// The bytes of a file, given by its header and rows.
+    fn file(header: &str, rows: &[&str]) -> Vec<u8> {
+        [&[header], rows, &[""]].concat().join("\r\n").into_bytes()
+    }
 
     impl Bytes {
+        /// Files without parents.
         pub fn of(constraint: &str, supply: &[&str], schedules: &[&str]) -> Bytes {
-            let file =
-                |header: &str, rows: &[&str]| [&[header], rows, &[""]].concat().join("\r\n").into_bytes();
-            Bytes([file(CONSTRAINT, &[constraint]), file(SUPPLY, supply), file(SCHEDULES, schedules)])
+            let constraint = file(CONSTRAINT, &[constraint]);
+            Bytes([constraint, file(SUPPLY, supply), file(SCHEDULES, schedules), Vec::new()])
+        }
+
+        /// The same files with parents.
+        pub fn with_parents(mut self, rows: &[&str]) -> Bytes {
+            self.0[3] = file(PARENTS, rows);
+            self
         }
 
         /// The example ★ of the paper.
@@ -121,8 +133,14 @@ pub mod tests {
         }
 
         pub fn files(&self) -> Files<'_> {
-            let [constraint, supply, schedules] = &self.0;
-            Files { constraint, supply, schedules }
+            let [constraint, supply, schedules, parents] = &self.0;
+            Files { constraint, supply, schedules, parents }
+        }
+
+        /// The files of the check.
+        pub fn three(&self) -> [&[u8]; 3] {
+            let [constraint, supply, schedules, _] = self.0.each_ref().map(Vec::as_slice);
+            [constraint, supply, schedules]
         }
     }
 
@@ -180,6 +198,57 @@ pub mod tests {
         assert_eq!(answer[4], "14,4,U,0,1,M,500000");
         let enough = Bytes::of("5,1500,300", &STARRED_SUPPLY, &STARRED_SCHEDULES);
         assert_eq!(study(Day::fresh(), &enough).1.unwrap()[1], "11,1,F,0,2,C,1030000");
+    }
+
+    /// The last rows of the starred answer where the suppliers have parents.
+    fn under(parents: &[&str]) -> Result<Vec<String>, Refusal> {
+        study(Day::fresh(), &Bytes::starred().with_parents(parents)).1
+    }
+
+    /// "Left is the relevant supply without it and without its two largest other" groups.
+    #[test]
+    fn groups_are_tested_and_the_filed_supplier_is_shown() {
+        let starred = under(&[]).unwrap();
+        for parents in [&["1,2"][..], &["2,1"], &["4,900", "1,900"], &["1,5", "5,6", "6,7", "3,7"]] {
+            let answer = under(parents).unwrap();
+            assert_eq!(answer[..4], starred[..4], "{parents:?}");
+            assert_eq!(answer[4], "14,4,F,0,1,M,500000", "{parents:?}");
+        }
+        assert_eq!(study(Day::fresh(), &Bytes::starred()).1.unwrap(), starred);
+        assert_eq!(under(&["900,901", "4,900"]).unwrap(), starred);
+    }
+
+    /// Four suppliers of one row each, at a relief that three of them leave to the fourth.
+    #[test]
+    fn a_group_fails_where_its_suppliers_would_pass() {
+        let supply = ["1,1,100,0,100", "2,2,100,0,100", "3,3,100,0,100", "4,4,100,0,100"];
+        let schedules = ["1,1,M,5,1,9,0,0,1", "2,1,M,5,1,9,0,0,1", "3,1,M,5,1,9,0,0,1", "4,1,M,5,1,9,0,0,1"];
+        let verdicts = |parents: &[&str]| {
+            let bytes = Bytes::of("5,1,1", &supply, &schedules).with_parents(parents);
+            let answer = study(Day::fresh(), &bytes).1.unwrap();
+            answer[1..].iter().map(|row| row.replace(",1,M,9", "")).collect::<Vec<_>>()
+        };
+        assert_eq!(verdicts(&[]), ["1,1,P,10000", "2,2,P,10000", "3,3,P,10000", "4,4,P,10000"]);
+        assert_eq!(verdicts(&["4,1"]), ["1,1,F,0", "2,2,F,0", "3,3,F,0", "4,4,F,0"]);
+    }
+
+    #[test]
+    fn parents_refuse_in_their_place() {
+        let refusal = |parents: &[&str]| under(parents).unwrap_err();
+        assert_eq!(refusal(&["1,2", "1,2"]), Refusal::at(35, 5, 2));
+        assert_eq!(refusal(&["1,1", "1,2"]), Refusal::at(35, 5, 2));
+        assert_eq!(refusal(&["1,2", "2,3", "3,2"]), Refusal::at(36, 5, 2));
+        assert_eq!(refusal(&["900,900"]), Refusal::at(36, 5, 1));
+        assert_eq!(refusal(&["1,1", "0,2"]), Refusal::at(3, 5, 2));
+        let without_schedules =
+            |parents: &[&str]| Bytes::of("5,1,1", &["1,1,1,1,1"], &[]).with_parents(parents);
+        let refusal = |bytes: &Bytes| study(Day::fresh(), bytes).1.unwrap_err();
+        assert_eq!(refusal(&without_schedules(&["7,7"])), Refusal::at(36, 5, 1));
+        assert_eq!(refusal(&without_schedules(&["7,8"])), Refusal::at(8, 3, 1));
+        let stray = Bytes::of("5,1,1", &[], &["1,1,M,5,0,0,0,0,1"]).with_parents(&["\n"]);
+        assert_eq!(refusal(&stray), Refusal::at(7, 3, 1));
+        let parents_alone = Bytes::of("5,1,1", &[], &[]).with_parents(&["\n"]);
+        assert_eq!(refusal(&parents_alone), Refusal::at(1, 5, 0));
     }
 
     #[test]

@@ -94,6 +94,11 @@ pub const SCHEDULES: Table = Table {
     ],
 };
 
+/// "`supplier,parent`, at most 64 rows", of which "both columns range as supplier does" (document 02,
+/// F-6).
+pub const PARENTS: Table =
+    Table { file: 5, rows: 0..=64, columns: &[column("supplier", 1, 999), column("parent", 1, 999)] };
+
 /// The row of the constraint file.
 #[derive(Clone, Copy, Debug)]
 pub struct Constraint {
@@ -124,6 +129,13 @@ pub struct Schedule {
     pub noload: u64,
     pub startup: u64,
     pub minrun: u64,
+}
+
+/// A row of the parents file: it "names a parent for a supplier".
+#[derive(Clone, Copy, Debug, PartialEq, Eq)]
+pub struct Parent {
+    pub supplier: u64,
+    pub parent: u64,
 }
 
 /// The rows of the constraint file, of which there is exactly one.
@@ -159,6 +171,16 @@ pub fn read_schedules(file: &[u8]) -> Result<Vec<Schedule>, Refusal> {
         minrun: row[8].count(),
     };
     Ok(SCHEDULES.read(file)?.iter().map(schedule).collect())
+}
+
+/// The rows of the parents file, each for itself: "a file that a study gains later may be empty, which
+/// counts as its header alone".
+pub fn read_parents(file: &[u8]) -> Result<Vec<Parent>, Refusal> {
+    if file.is_empty() {
+        return Ok(Vec::new());
+    }
+    let parent = |row: &Vec<Value>| Parent { supplier: row[0].count(), parent: row[1].count() };
+    Ok(PARENTS.read(file)?.iter().map(parent).collect())
 }
 
 /// What a field says once it is read.
@@ -321,6 +343,33 @@ mod tests {
         }
         let long = "9".repeat(60_000);
         assert_eq!(constraint(&format!("hour,relief,cutoff\r\n{long},1,1")), Err((3, 1)));
+    }
+
+    fn parents(file: &str) -> Result<usize, (u64, u64, u64)> {
+        match read_parents(file.as_bytes()) {
+            Ok(rows) => Ok(rows.len()),
+            Err(Refusal { number, file, place }) => Err((number, file, place)),
+        }
+    }
+
+    #[test]
+    fn parents_may_be_no_bytes_but_not_a_blank_record() {
+        assert_eq!(parents(""), Ok(0));
+        assert_eq!(parents("supplier,parent"), Ok(0));
+        assert_eq!(parents("supplier,parent\r\n\"1\",999\r\n"), Ok(1));
+        assert_eq!(parents("\r\n"), Err((2, 5, 0)));
+        assert_eq!(parents("parent,supplier\r\n1,2\r\n"), Err((2, 5, 0)));
+        assert_eq!(parents("supplier,parent\r\n1,2\r\n1\r\n"), Err((2, 5, 2)));
+    }
+
+    #[test]
+    fn parents_are_at_most_64_and_range_as_suppliers() {
+        let file = |count: usize| format!("supplier,parent{}", "\r\n1,2".repeat(count));
+        assert_eq!(parents(&file(64)), Ok(64));
+        assert_eq!(parents(&file(65)), Err((4, 5, 0)));
+        for row in ["0,1", "1,0", "1000,1", "1,1000", "1,-2", "1,02", "1,"] {
+            assert_eq!(parents(&format!("{}\r\n{row}", file(1))), Err((3, 5, 2)), "{row}");
+        }
     }
 
     #[test]

@@ -11,14 +11,14 @@ pub const LONGEST_BUFFER: usize = 4_096;
 const MOST_AMOUNTS: usize = 1_000;
 
 /// The bytes of constraint, supply and schedules.
-pub type Files = [Vec<u8>; 3];
+pub type ThreeFiles = [Vec<u8>; 3];
 
 #[derive(Debug, PartialEq, Eq)]
 pub enum Asked {
-    Study { day: Day, files: Files, lent: usize },
+    Study { day: Day, files: ThreeFiles, parents: Vec<u8>, lent: usize },
     Release { day: Day, unit: u64 },
     Test { need: u64, place: usize, amounts: Vec<u64> },
-    Check { files: Files },
+    Check { files: ThreeFiles },
 }
 
 impl Asked {
@@ -26,9 +26,10 @@ impl Asked {
     pub fn read(line: &[u8]) -> Option<Asked> {
         let words: Vec<&[u8]> = line.split(|&byte| byte == b' ').collect();
         match words[..] {
-            [b"study", day, c, s, h, lent] => Some(Asked::Study {
+            [b"study", day, c, s, h, p, lent] => Some(Asked::Study {
                 day: read_day(day)?,
                 files: read_files(c, s, h)?,
+                parents: hex::read(p)?,
                 lent: read_lent(lent)?,
             }),
             [b"release", day, unit] => Some(Asked::Release { day: read_day(day)?, unit: read_number(unit)? }),
@@ -47,7 +48,7 @@ fn read_day(word: &[u8]) -> Option<Day> {
     std::str::from_utf8(word).ok()?.parse().ok()
 }
 
-fn read_files(constraint: &[u8], supply: &[u8], schedules: &[u8]) -> Option<Files> {
+fn read_files(constraint: &[u8], supply: &[u8], schedules: &[u8]) -> Option<ThreeFiles> {
     Some([hex::read(constraint)?, hex::read(supply)?, hex::read(schedules)?])
 }
 
@@ -98,8 +99,8 @@ mod tests {
     fn each_case() {
         let files = || [vec![0x0a, 0xff], vec![], vec![0]];
         assert_eq!(
-            read("study 5;1:M:2 0aff . 00 12"),
-            Some(Asked::Study { day: day("5;1:M:2"), files: files(), lent: 12 })
+            read("study 5;1:M:2 0aff . 00 0102 12"),
+            Some(Asked::Study { day: day("5;1:M:2"), files: files(), parents: vec![1, 2], lent: 12 })
         );
         assert_eq!(read("release - 7"), Some(Asked::Release { day: Day::fresh(), unit: 7 }));
         assert_eq!(read("test 1 2 3,4"), Some(Asked::Test { need: 1, place: 2, amounts: vec![3, 4] }));
@@ -122,9 +123,9 @@ mod tests {
 
     #[test]
     fn what_is_lent() {
-        assert!(read("study - . . . 0").is_some());
-        assert!(read("study - . . . 4096").is_some());
-        assert_eq!(read("study - . . . 4097"), None);
+        assert!(read("study - . . . . 0").is_some());
+        assert!(read("study - . . . . 4096").is_some());
+        assert_eq!(read("study - . . . . 4097"), None);
     }
 
     #[test]
@@ -139,6 +140,11 @@ mod tests {
         let file = "61".repeat(1 << 20);
         let files = || [vec![0x61; 1 << 20], vec![0x61; 1 << 20], vec![0x61; 1 << 20]];
         assert_eq!(read(&format!("check {file} {file} {file}")), Some(Asked::Check { files: files() }));
+        let parents = vec![0x61; 1 << 20];
+        assert_eq!(
+            read(&format!("study - {file} {file} {file} {file} 7")),
+            Some(Asked::Study { day: Day::fresh(), files: files(), parents, lent: 7 })
+        );
     }
 
     #[test]
@@ -147,17 +153,19 @@ mod tests {
             "",
             " ",
             "study",
-            " study - . . . 1",
-            "study  - . . . 1",
-            "study - . . .",
-            "study - . . . ",
-            "study - . . . 1 ",
-            "study - . . . 1 1",
-            "study - 0 . . 1",
-            "study - 0g . . 1",
-            "study - 0A . . 1",
-            "study - .. . . 1",
-            "study -  . . 1",
+            " study - . . . . 1",
+            "study  - . . . . 1",
+            "study - . . . 1",
+            "study - . . . .",
+            "study - . . . . ",
+            "study - . . . . 1 ",
+            "study - . . . . 1 1",
+            "study - . . . . . 1",
+            "study - 0 . . . 1",
+            "study - 0g . . . 1",
+            "study - . . . 0A 1",
+            "study - .. . . . 1",
+            "study -  . . . 1",
             "release",
             "release -",
             "release - ",

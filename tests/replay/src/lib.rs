@@ -2,15 +2,15 @@
 //! answers, one a line.
 //!
 //! ```text
-//! study DAY C S H BUFLEN   ok ANSWERHEX DAY   or   no NUMBER FILE PLACE
-//! release DAY UNIT         ok DAY             or   no NUMBER FILE PLACE
-//! test NEED PLACE a,b,c    ok LEFT P   or   ok LEFT F   or   no 11 0 0
-//! check C S H              NUMBER
+//! study DAY C S H P BUFLEN   ok ANSWERHEX DAY   or   no NUMBER FILE PLACE
+//! release DAY UNIT           ok DAY             or   no NUMBER FILE PLACE
+//! test NEED PLACE a,b,c      ok LEFT P   or   ok LEFT F   or   no 11 0 0
+//! check C S H                NUMBER
 //! ```
 //!
-//! DAY is a day in the words of `hosts/rust`. C, S and H are the files in lower-case hex, `.` for an
-//! empty file; `.` stands for no amounts too. Whatever isn't in this form is answered by `unreadable
-//! case`, and a case in which the engine changed what it had to leave alone by `spoilt`.
+//! DAY is a day in the words of `hosts/rust`. C, S, H and P are the files, P the parents, in lower-case
+//! hex, `.` for an empty file; `.` stands for no amounts too. Whatever isn't in this form is answered by
+//! `unreadable case`, and a case in which the engine changed what it had to leave alone by `spoilt`.
 //!
 //! The model reads the same lines. Nothing of its reader is used here, so that the two are held against
 //! each other.
@@ -18,9 +18,9 @@
 mod asked;
 mod hex;
 
-use capping::{Day, Refusal, Verdict};
+use capping::{Day, Files, Refusal, Verdict};
 
-use asked::{Asked, Files, LONGEST_BUFFER};
+use asked::{Asked, LONGEST_BUFFER};
 use hex::Hex;
 
 /// What the buffer is filled with before it is lent. No answer file has this byte.
@@ -35,20 +35,21 @@ const SPOILT: &str = "spoilt";
 /// The answer to a line, which is given without its end.
 pub fn answer(line: &[u8]) -> String {
     match Asked::read(line) {
-        Some(Asked::Study { day, files, lent }) => study(day, &files, lent),
+        Some(Asked::Study { day, files: [c, s, h], parents, lent }) => {
+            study(day, Files::new(&c, &s, &h).with_parents(&parents), lent)
+        }
         Some(Asked::Release { day, unit }) => release(day, unit),
         Some(Asked::Test { need, place, amounts }) => test(&amounts, place, need),
-        Some(Asked::Check { files }) => check(&files),
+        Some(Asked::Check { files: [c, s, h] }) => check(&c, &s, &h),
         None => UNREADABLE.to_string(),
     }
 }
 
 /// Studies in the first bytes of a longer buffer, so that what is written past them shows.
-fn study(given: Day, files: &Files, lent: usize) -> String {
-    let [constraint, supply, schedules] = files;
+fn study(given: Day, files: Files, lent: usize) -> String {
     let mut buffer = [PATTERN; LONGEST_BUFFER];
     let mut day = given.clone();
-    let result = day.study_into(constraint, supply, schedules, &mut buffer[..lent]);
+    let result = day.study_into(files, &mut buffer[..lent]);
     say_studied(result, &buffer, &given, &day)
 }
 
@@ -92,7 +93,7 @@ fn test(amounts: &[u64], place: usize, need: u64) -> String {
     }
 }
 
-fn check([constraint, supply, schedules]: &Files) -> String {
+fn check(constraint: &[u8], supply: &[u8], schedules: &[u8]) -> String {
     capping::check(constraint, supply, schedules).err().unwrap_or(0).to_string()
 }
 
@@ -130,16 +131,37 @@ mod tests {
     const STARRED_ANSWER: &str = "unit,supplier,verdict,left,schedule,kind,cost\r\n\
         11,1,F,0,2,C,1030000\r\n12,2,F,0,1,M,330000\r\n13,3,F,0,1,C,890000\r\n14,4,F,5000000,1,M,500000\r\n";
 
+    /// The same where two suppliers are affiliated: unit 14's group and two others are all that supply.
+    const AFFILIATED_ANSWER: &str = "unit,supplier,verdict,left,schedule,kind,cost\r\n\
+        11,1,F,0,2,C,1030000\r\n12,2,F,0,1,M,330000\r\n13,3,F,0,1,C,890000\r\n14,4,F,0,1,M,500000\r\n";
+
+    /// What is said of an accepted study of the starred example.
+    fn ok_starred(answer: &str) -> String {
+        format!("ok {} 5;11:C:2,12:M:1,13:C:1,14:M:1", Hex(answer.as_bytes()))
+    }
+
     #[test]
     fn studies() {
-        let ok = format!("ok {} 5;11:C:2,12:M:1,13:C:1,14:M:1", Hex(STARRED_ANSWER.as_bytes()));
+        let ok = ok_starred(STARRED_ANSWER);
         let length = STARRED_ANSWER.len();
-        assert_eq!(ask(&format!("study - {} 4096", starred())), ok);
-        assert_eq!(ask(&format!("study - {} {length}", starred())), ok);
-        assert_eq!(ask(&format!("study - {} {}", starred(), length - 1)), "no 10 0 0");
-        assert_eq!(ask(&format!("study 6; {} 4096", starred())), "no 20 0 0");
-        assert_eq!(ask(&format!("study 24; {} 4096", starred())), "no 24 0 0");
-        assert_eq!(ask("study - . . . 4096"), "no 2 1 0");
+        assert_eq!(ask(&format!("study - {} . 4096", starred())), ok);
+        assert_eq!(ask(&format!("study - {} . {length}", starred())), ok);
+        assert_eq!(ask(&format!("study - {} . {}", starred(), length - 1)), "no 10 0 0");
+        assert_eq!(ask(&format!("study 6; {} . 4096", starred())), "no 20 0 0");
+        assert_eq!(ask(&format!("study 24; {} . 4096", starred())), "no 24 0 0");
+        assert_eq!(ask("study - . . . . 4096"), "no 2 1 0");
+    }
+
+    #[test]
+    fn studies_with_parents() {
+        let study = |rows: &str| {
+            let parents = format!("supplier,parent\r\n{rows}");
+            ask(&format!("study - {} {} 4096", starred(), Hex(parents.as_bytes())))
+        };
+        assert_eq!(study(""), ok_starred(STARRED_ANSWER));
+        assert_eq!(study("1,2\r\n"), ok_starred(AFFILIATED_ANSWER));
+        assert_eq!(study("1,2\r\n1,2\r\n"), "no 35 5 2");
+        assert_eq!(study("1,2\r\n2,3\r\n3,2\r\n"), "no 36 5 2");
     }
 
     #[test]

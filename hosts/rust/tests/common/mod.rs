@@ -1,4 +1,4 @@
-//! What the tests share: the headers, three files as text, and the starred example of document 01 with its answer.
+//! What the tests share: the headers, the files of a study as text, and the starred example of document 01 with its answers.
 #![allow(dead_code)] // No test uses all of it.
 use capping::Refusal;
 
@@ -6,8 +6,14 @@ pub const CONSTRAINT: &str = "hour,relief,cutoff\r\n";
 pub const SUPPLY: &str = "unit,supplier,mw,cost,dfax\r\n";
 pub const SCHEDULES: &str = "unit,schedule,kind,hour,ecomin,price,noload,startup,minrun\r\n";
 
+pub const PARENTS: &str = "supplier,parent\r\n";
+
 pub const STARRED_ANSWER: &str = "unit,supplier,verdict,left,schedule,kind,cost\r\n\
     11,1,F,0,2,C,1030000\r\n12,2,F,0,1,M,330000\r\n13,3,F,0,1,C,890000\r\n14,4,F,5000000,1,M,500000\r\n";
+
+/// The same where any two of its suppliers are affiliated: unit 14's own group and two others are then all that supply.
+pub const AFFILIATED_ANSWER: &str = "unit,supplier,verdict,left,schedule,kind,cost\r\n\
+    11,1,F,0,2,C,1030000\r\n12,2,F,0,1,M,330000\r\n13,3,F,0,1,C,890000\r\n14,4,F,0,1,M,500000\r\n";
 
 /// What a buffer is filled with before it is lent. No answer file has this byte.
 pub const PATTERN: u8 = 0xA5;
@@ -17,9 +23,11 @@ pub struct Files {
     pub constraint: String,
     pub supply: String,
     pub schedules: String,
+    pub parents: String,
 }
 
 impl Files {
+    /// Without parents.
     pub fn starred() -> Files {
         let supply = "11,1,1000,3000,5000\r\n12,2,1000,3000,-5000\r\n13,3,1000,4000,5000\r\n14,4,2000,2000,200\r\n";
         let schedules = "11,1,M,5,100,4000,50000,20000,1\r\n11,2,C,5,100,3000,50000,20000,1\r\n\
@@ -29,12 +37,27 @@ impl Files {
             constraint: format!("{CONSTRAINT}5,1000,300\r\n"),
             supply: format!("{SUPPLY}{supply}"),
             schedules: format!("{SCHEDULES}{schedules}"),
+            parents: String::new(),
         }
     }
 
-    /// Constraint, supply and schedules as a call takes them.
-    pub fn bytes(&self) -> [&[u8]; 3] {
+    /// The starred files with these rows of parents.
+    pub fn starred_with(parents: &str) -> Files {
+        Files {
+            parents: format!("{PARENTS}{parents}"),
+            ..Files::starred()
+        }
+    }
+
+    /// Constraint, supply and schedules as a check takes them.
+    pub fn checked(&self) -> [&[u8]; 3] {
         [&self.constraint, &self.supply, &self.schedules].map(|file| file.as_bytes())
+    }
+
+    /// All of them as a study takes them.
+    pub fn studied(&self) -> capping::Files<'_> {
+        let [constraint, supply, schedules] = self.checked();
+        capping::Files::new(constraint, supply, schedules).with_parents(self.parents.as_bytes())
     }
 }
 

@@ -4,16 +4,17 @@ use super::random::Random;
 use super::supply::{make_market, Size};
 use crate::day::{Day, Running};
 use crate::market::capped;
-use crate::table::{Constraint, Kind, Schedule, Supply};
+use crate::table::{Constraint, Kind, Parent, Schedule, Supply};
 
 /// The most rows of the schedules file.
 const SCHEDULE_ROWS: usize = 1024;
 
-/// The rows of three files and the day that they are studied on.
+/// The rows of the files and the day that they are studied on.
 pub struct Draft {
     pub constraint: Constraint,
     pub supply: Vec<Supply>,
     pub schedules: Vec<Schedule>,
+    pub parents: Vec<Parent>,
     pub day: Day,
 }
 
@@ -21,10 +22,9 @@ impl Draft {
     /// A draft of some size.
     pub fn make(random: &mut Random) -> Draft {
         let size = Size::make(random);
-        let (relief, cutoff, supply) = make_market(size, random);
         let hour = make_hour(random);
-        let constraint = Constraint { hour, relief, cutoff };
-        let mut draft = Draft { constraint, supply, schedules: Vec::new(), day: Day::fresh() };
+        let (constraint, supply, parents) = make_market(size, hour, random);
+        let mut draft = Draft { constraint, supply, schedules: Vec::new(), parents, day: Day::fresh() };
         let plan = Plan { hour, brief: random.percent(85) };
         draft.schedules = plan.schedules(&draft.units(), random);
         draft.day = make_day(&draft, random);
@@ -34,9 +34,8 @@ impl Draft {
 
     /// A draft at every limit, with long numerals: its schedules can fill 65,536 bytes.
     pub fn make_brimming(random: &mut Random) -> Draft {
-        let (relief, cutoff, supply) = make_market(Size::LARGEST, random);
-        let constraint = Constraint { hour: 8, relief, cutoff };
-        let mut draft = Draft { constraint, supply, schedules: Vec::new(), day: Day::fresh() };
+        let (constraint, supply, parents) = make_market(Size::LARGEST, 8, random);
+        let mut draft = Draft { constraint, supply, schedules: Vec::new(), parents, day: Day::fresh() };
         let units = draft.units();
         for row in &mut draft.supply {
             row.unit = 9_000 + units.iter().filter(|&&unit| unit < row.unit).count() as u64;
@@ -62,10 +61,12 @@ impl Draft {
 
     /// The units of the supply rows, by rising number.
     pub fn units(&self) -> Vec<u64> {
-        let mut units: Vec<u64> = self.supply.iter().map(|row| row.unit).collect();
-        units.sort();
-        units.dedup();
-        units
+        different(self.supply.iter().map(|row| row.unit))
+    }
+
+    /// The suppliers of the supply rows, by rising number.
+    pub fn suppliers(&self) -> Vec<u64> {
+        different(self.supply.iter().map(|row| row.supplier))
     }
 
     /// A unit that no row has.
@@ -91,6 +92,14 @@ impl Draft {
             self.schedules.sort_by_key(|row| row.hour);
         }
     }
+}
+
+/// Each number once, by rising number.
+pub fn different(numbers: impl Iterator<Item = u64>) -> Vec<u64> {
+    let mut numbers: Vec<u64> = numbers.collect();
+    numbers.sort();
+    numbers.dedup();
+    numbers
 }
 
 /// An hour of the day, the last ones often.
@@ -260,9 +269,7 @@ fn make_day(draft: &Draft, random: &mut Random) -> Day {
 
 /// So many running units beside those of the files.
 pub fn others_running(count: usize, units: &[u64], random: &mut Random) -> Vec<Running> {
-    let mut numbers = random.distinct(count + units.len(), 1, 9_999);
-    numbers.retain(|unit| !units.contains(unit));
-    numbers.truncate(count);
+    let numbers = random.distinct_beside(count, 1, 9_999, units);
     let running =
         |unit| Running { unit, kind: random.pick(&[Kind::M, Kind::C]), schedule: random.between(1, 99) };
     numbers.into_iter().map(running).collect()

@@ -1,6 +1,7 @@
 //! Faults: what makes a study refused, number by number. Several may be laid over one draft.
 
 use super::draft::{others_running, Draft};
+use super::parents::{close_ring, give_twice};
 use super::random::Random;
 use super::sheet::Sheet;
 use crate::case::LONGEST_LIST;
@@ -9,7 +10,8 @@ use crate::day::{Day, Running};
 use crate::table::{Kind, Range, Schedule, Supply};
 
 /// The refusals of a study, those most often that can come about in the most ways.
-pub const NUMBERS: [u64; 20] = [1, 1, 2, 2, 3, 3, 3, 3, 4, 5, 6, 6, 7, 8, 9, 10, 20, 21, 22, 24];
+pub const NUMBERS: [u64; 24] =
+    [1, 1, 2, 2, 3, 3, 3, 3, 4, 5, 6, 6, 7, 8, 9, 10, 20, 21, 22, 24, 35, 35, 36, 36];
 
 /// Puts a fault into the rows or the day. The numbers 1 to 4 are faults of the text instead.
 pub fn spoil_draft(number: u64, draft: &mut Draft, random: &mut Random) {
@@ -24,6 +26,8 @@ pub fn spoil_draft(number: u64, draft: &mut Draft, random: &mut Random) {
         21 => take_cost_schedules(draft, random),
         22 => fill_day(draft, random),
         24 => spoil_day(&mut draft.day, random),
+        35 => give_twice(draft, random),
+        36 => close_ring(draft, random),
         _ => {}
     }
 }

@@ -4,6 +4,7 @@
 mod draft;
 mod faults;
 mod lines;
+mod parents;
 pub mod random;
 pub mod sheet;
 mod supply;
@@ -11,6 +12,7 @@ mod supply;
 use crate::answer::LONGEST;
 use crate::case::{Case, ThreeFiles, LONGEST_BUFFER};
 use crate::day::Day;
+use crate::rules::Files;
 use draft::Draft;
 use faults::{spoil_draft, spoil_sheet, NUMBERS};
 use random::Random;
@@ -50,15 +52,28 @@ pub fn make(seed: u64, index: u64) -> Line {
 fn make_study(random: &mut Random) -> Case {
     let faults = make_faults(random);
     let (day, files) = make_files(&faults, random);
-    let buffer = make_buffer(faults.contains(&10), &day, &files, random);
-    Case::Study { day, files, buffer }
+    let (files, parents) = split(files);
+    let buffer = make_buffer(faults.contains(&10), &day, &files.beside(&parents), random);
+    Case::Study { day, files, parents, buffer }
 }
 
 /// A check of files as a study has them.
 fn make_check(random: &mut Random) -> Case {
     let faults = make_faults(random);
     let (_, files) = make_files(&faults, random);
-    Case::Check { files }
+    Case::Check { files: split(files).0 }
+}
+
+/// Constraint, supply, schedules and parents of a study, in this order.
+type StudyFiles = [Vec<u8>; 4];
+
+/// Where schedules and parents stand among them.
+const SCHEDULES: usize = 2;
+const PARENTS: usize = 3;
+
+/// The files of a check, and the parents.
+fn split([constraint, supply, schedules, parents]: StudyFiles) -> (ThreeFiles, Vec<u8>) {
+    (ThreeFiles([constraint, supply, schedules]), parents)
 }
 
 /// None, one or two numbers of refusals.
@@ -68,7 +83,7 @@ fn make_faults(random: &mut Random) -> Vec<u64> {
 }
 
 /// The files with the faults in them, and the day.
-fn make_files(faults: &[u64], random: &mut Random) -> (Day, ThreeFiles) {
+fn make_files(faults: &[u64], random: &mut Random) -> (Day, StudyFiles) {
     if random.once_in(400) {
         return make_brimming(random);
     }
@@ -78,48 +93,63 @@ fn make_files(faults: &[u64], random: &mut Random) -> (Day, ThreeFiles) {
     }
     let mut sheets = sheets(&draft);
     for &number in faults {
-        let file = random.index(3);
+        let file = random.index(sheets.len());
         spoil_sheet(number, &mut sheets[file], random);
     }
-    let mut files = sheets.map(|sheet| sheet.write(random));
+    let mut files = write(sheets, random);
     for _ in faults.iter().filter(|&&number| number == 1) {
-        let file = random.index(3);
+        let file = random.index(files.len());
         damage(&mut files[file], random);
     }
     if random.once_in(40) {
-        let file = random.index(3);
+        let file = random.index(files.len());
         disturb(&mut files[file], random);
     }
-    (draft.day, ThreeFiles(files))
+    (draft.day, files)
 }
 
-fn sheets(draft: &Draft) -> [Sheet; 3] {
-    [Sheet::constraint(&draft.constraint), Sheet::supply(&draft.supply), Sheet::schedules(&draft.schedules)]
+fn sheets(draft: &Draft) -> [Sheet; 4] {
+    [
+        Sheet::constraint(&draft.constraint),
+        Sheet::supply(&draft.supply),
+        Sheet::schedules(&draft.schedules),
+        Sheet::parents(&draft.parents),
+    ]
+}
+
+/// The bytes of the sheets. Parents of the header alone may as well be no bytes.
+fn write(sheets: [Sheet; 4], random: &mut Random) -> StudyFiles {
+    let no_parents = sheets[PARENTS].records == Sheet::parents(&[]).records;
+    let mut files = sheets.map(|sheet| sheet.write(random));
+    if no_parents && random.percent(60) {
+        files[PARENTS].clear();
+    }
+    files
 }
 
 /// Files of which one is as large as the program takes: schedules that are accepted, or a field that
 /// goes on and on.
-fn make_brimming(random: &mut Random) -> (Day, ThreeFiles) {
+fn make_brimming(random: &mut Random) -> (Day, StudyFiles) {
     let draft = Draft::make_brimming(random);
     let mut sheets = sheets(&draft);
-    let full = if random.percent(50) { Some(sheets[2].write_brimming(random)) } else { None };
-    let mut files = sheets.map(|sheet| sheet.write(random));
+    let full = if random.percent(50) { Some(sheets[SCHEDULES].write_brimming(random)) } else { None };
+    let mut files = write(sheets, random);
     match full {
-        Some(schedules) => files[2] = schedules,
+        Some(schedules) => files[SCHEDULES] = schedules,
         None => {
             let filler = random.pick(b"0159 ");
-            let file = &mut files[random.index(3)];
+            let file = &mut files[random.index(files.len())];
             file.extend(std::iter::repeat_n(filler, LARGEST_FILE.saturating_sub(file.len())));
         }
     }
-    (draft.day, ThreeFiles(files))
+    (draft.day, files)
 }
 
 /// A buffer's length: ample, or right at the answer's own.
-fn make_buffer(short: bool, day: &Day, files: &ThreeFiles, random: &mut Random) -> u64 {
+fn make_buffer(short: bool, day: &Day, files: &Files, random: &mut Random) -> u64 {
     if short || random.percent(35) {
         let mut buffer = [0; LONGEST];
-        let (_, result) = day.clone().study(&files.lend(), &mut buffer);
+        let (_, result) = day.clone().study(files, &mut buffer);
         let fitting = result.unwrap_or(LONGEST) as u64;
         return match random.between(0, 9) {
             _ if short => random.pick(&[0, 1, 46, 47, fitting - 1, fitting - 1, fitting - 1, fitting / 2]),
@@ -142,8 +172,9 @@ mod tests {
     use super::*;
 
     /// Whether a draft's files are accepted on its day.
-    fn accepted(day: Day, files: &ThreeFiles) -> bool {
-        day.study(&files.lend(), &mut [0; LONGEST]).1.is_ok()
+    fn accepted(day: Day, files: StudyFiles) -> bool {
+        let (files, parents) = split(files);
+        day.study(&files.beside(&parents), &mut [0; LONGEST]).1.is_ok()
     }
 
     #[test]
@@ -151,8 +182,8 @@ mod tests {
         for index in 0..1_000 {
             let random = &mut Random::of(1, index);
             let draft = Draft::make(random);
-            let files = ThreeFiles(sheets(&draft).map(|sheet| sheet.write(random)));
-            assert!(accepted(draft.day, &files), "{index}");
+            let files = write(sheets(&draft), random);
+            assert!(accepted(draft.day, files), "{index}");
         }
     }
 
@@ -162,10 +193,10 @@ mod tests {
             let random = &mut Random::of(2, index);
             let draft = Draft::make_brimming(random);
             let mut sheets = sheets(&draft);
-            let schedules = sheets[2].write_brimming(random);
+            let schedules = sheets[SCHEDULES].write_brimming(random);
             assert_eq!(schedules.len(), LARGEST_FILE);
-            let [constraint, supply, _] = sheets.map(|sheet| sheet.write(random));
-            assert!(accepted(draft.day, &ThreeFiles([constraint, supply, schedules])), "{index}");
+            let [constraint, supply, _, parents] = write(sheets, random);
+            assert!(accepted(draft.day, [constraint, supply, schedules, parents]), "{index}");
         }
     }
 

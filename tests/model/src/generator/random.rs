@@ -9,12 +9,12 @@ impl Random {
     /// The source of one case of a seed.
     pub fn of(seed: u64, index: u64) -> Random {
         let mut source = Random(seed);
-        let mixed = source.next() ^ index.wrapping_mul(STEP);
+        let mixed = source.any() ^ index.wrapping_mul(STEP);
         Random(mixed)
     }
 
     /// Any number.
-    pub fn next(&mut self) -> u64 {
+    pub fn any(&mut self) -> u64 {
         self.0 = self.0.wrapping_add(STEP);
         let mut mixed = self.0;
         mixed = (mixed ^ (mixed >> 30)).wrapping_mul(0xbf58_476d_1ce4_e5b9);
@@ -24,22 +24,22 @@ impl Random {
 
     /// A number from `min` to `max`, both of them possible.
     pub fn between(&mut self, min: u64, max: u64) -> u64 {
-        min + self.next() % (max - min + 1)
+        min + self.any() % (max - min + 1)
     }
 
     /// A number below a length.
     pub fn index(&mut self, length: usize) -> usize {
-        (self.next() % length as u64) as usize
+        (self.any() % length as u64) as usize
     }
 
     /// True once in so many times.
     pub fn once_in(&mut self, times: u64) -> bool {
-        self.next().is_multiple_of(times)
+        self.any().is_multiple_of(times)
     }
 
     /// True so many times of a hundred.
     pub fn percent(&mut self, chance: u64) -> bool {
-        self.next() % 100 < chance
+        self.any() % 100 < chance
     }
 
     /// One of several.
@@ -63,10 +63,15 @@ impl Random {
 
     /// So many different numbers from `min` to `max`, in no order.
     pub fn distinct(&mut self, count: usize, min: u64, max: u64) -> Vec<u64> {
+        self.distinct_beside(count, min, max, &[])
+    }
+
+    /// So many different numbers from `min` to `max` that aren't taken, in no order.
+    pub fn distinct_beside(&mut self, count: usize, min: u64, max: u64, taken: &[u64]) -> Vec<u64> {
         let mut numbers = Vec::new();
         while numbers.len() < count {
             let number = self.between(min, max);
-            if !numbers.contains(&number) {
+            if !numbers.contains(&number) && !taken.contains(&number) {
                 numbers.push(number);
             }
         }

@@ -2,7 +2,8 @@
 
 use super::random::Random;
 use crate::csv::{Field, Record};
-use crate::table::{Column, Constraint, Schedule, Supply, Table, CONSTRAINT, SCHEDULES, SUPPLY};
+use crate::table::{Column, Constraint, Parent, Schedule, Supply, Table};
+use crate::table::{CONSTRAINT, PARENTS, SCHEDULES, SUPPLY};
 
 /// The largest file that the program takes.
 pub const LARGEST_FILE: usize = 65_536;
@@ -37,6 +38,11 @@ impl Sheet {
             fields
         };
         Sheet::of(&SCHEDULES, rows.iter().map(record).collect())
+    }
+
+    pub fn parents(rows: &[Parent]) -> Sheet {
+        let record = |row: &Parent| [row.supplier, row.parent].map(text).to_vec();
+        Sheet::of(&PARENTS, rows.iter().map(record).collect())
     }
 
     fn of(table: &'static Table, rows: Vec<Record>) -> Sheet {
@@ -160,7 +166,7 @@ pub fn disturb(bytes: &mut Vec<u8>, random: &mut Random) {
         }
         let place = random.index(bytes.len());
         match random.between(0, 5) {
-            0 => bytes[place] = random.next() as u8,
+            0 => bytes[place] = random.any() as u8,
             1 => bytes[place] = random.pick(b"0123456789,\"\r\n-MC "),
             2 => bytes.insert(place, random.pick(b"0123456789,\"\r\n-MC ")),
             3 => drop(bytes.remove(place)),

@@ -1,10 +1,11 @@
 //! Supply rows, cutoff and relief of a draft, with effective costs that tie or nearly do, and a need
-//! at the edges of what is supplied, cleared and left.
+//! at the edges of what is supplied, cleared and left by groups.
 
-use super::draft::uncapped;
+use super::draft::{different, uncapped};
+use super::parents::{grouped, make_parents};
 use super::random::Random;
 use crate::market::{capped, effective_supply, supply_of};
-use crate::table::Supply;
+use crate::table::{Constraint, Parent, Supply};
 
 /// How large a draft is.
 #[derive(Clone, Copy)]
@@ -62,8 +63,8 @@ struct Unit {
     negative: bool,
 }
 
-/// The relief, the cutoff and the supply rows.
-pub fn make_market(size: Size, random: &mut Random) -> (u64, u64, Vec<Supply>) {
+/// The constraint for an hour, the supply rows and the parents of their suppliers.
+pub fn make_market(size: Size, hour: u64, random: &mut Random) -> (Constraint, Vec<Supply>, Vec<Parent>) {
     let style = random.pick(&[
         Style::Plain,
         Style::Alike,
@@ -76,18 +77,20 @@ pub fn make_market(size: Size, random: &mut Random) -> (u64, u64, Vec<Supply>) {
         Style::Extreme,
     ]);
     let mut rows = make_rows(size, style, random);
-    let cutoff = make_cutoff(&rows, random);
+    let parents = make_parents(&different(rows.iter().map(|row| row.supplier)), random);
     let room = size.units < 64 && !rows.is_empty();
     if room && random.once_in(12) {
-        return make_balanced(rows, random);
+        let relief = balance(&mut rows, random);
+        return (Constraint { hour, relief, cutoff: 1 }, rows, parents);
     }
-    let eligible: Vec<Supply> =
-        rows.iter().copied().filter(|row| row.dfax.unsigned_abs() >= cutoff).collect();
+    let cutoff = make_cutoff(&rows, random);
+    let mut eligible = grouped(&rows, &parents);
+    eligible.retain(|row| row.dfax.unsigned_abs() >= cutoff);
     let relief = make_relief(&eligible, style, random);
     if random.once_in(40) {
         rows.iter_mut().for_each(|row| row.mw = 100_000);
     }
-    (relief, cutoff, rows)
+    (Constraint { hour, relief, cutoff }, rows, parents)
 }
 
 /// Rows for every unit and supplier of the size.
@@ -234,7 +237,8 @@ fn make_cutoff(rows: &[Supply], random: &mut Random) -> u64 {
     cutoff.clamp(1, 10_000)
 }
 
-/// A relief somewhere in what the eligible rows supply, or just beyond.
+/// A relief somewhere in what the eligible rows supply, or just beyond. The rows have the head in the
+/// place of the supplier.
 fn make_relief(eligible: &[Supply], style: Style, random: &mut Random) -> u64 {
     let supply = supply_of(eligible);
     let need = match (random.between(0, 19), style) {
@@ -259,21 +263,20 @@ fn need_by_cost(eligible: &[Supply], random: &mut Random) -> u64 {
     supply_of(&rows[..random.index(rows.len() + 1)])
 }
 
-/// What is left of all the rows without some supplier and its two largest others.
+/// What is left of all the rows without some group and its two largest others.
 fn need_by_left(eligible: &[Supply], random: &mut Random) -> u64 {
-    let mut suppliers: Vec<u64> = eligible.iter().map(|row| row.supplier).collect();
-    suppliers.sort();
-    suppliers.dedup();
-    let amount = |supplier: u64| supply_of(eligible.iter().filter(|row| row.supplier == supplier));
-    let mut amounts: Vec<u64> = suppliers.into_iter().map(amount).collect();
+    let groups = different(eligible.iter().map(|row| row.supplier));
+    let amount = |group: u64| supply_of(eligible.iter().filter(|row| row.supplier == group));
+    let mut amounts: Vec<u64> = groups.into_iter().map(amount).collect();
     random.shuffle(&mut amounts);
     amounts.pop();
     amounts.sort();
     amounts.iter().rev().skip(2).sum()
 }
 
-/// One more unit, of dfax 1 or -1, that brings the eligible supply to the need or one short of it.
-fn make_balanced(mut rows: Vec<Supply>, random: &mut Random) -> (u64, u64, Vec<Supply>) {
+/// One more unit, of dfax 1 or -1, that brings the eligible supply to the need or one short of it where
+/// the cutoff is 1. The relief.
+fn balance(rows: &mut Vec<Supply>, random: &mut Random) -> u64 {
     let supply: u64 = rows.iter().map(effective_supply).sum();
     let relief = (supply / 10_000 + 1).clamp(1, 1_000_000);
     let gap = (relief * 10_000).saturating_sub(supply).clamp(2, 100_000);
@@ -283,7 +286,7 @@ fn make_balanced(mut rows: Vec<Supply>, random: &mut Random) -> (u64, u64, Vec<S
             break unit;
         }
     };
-    let beside = random.pick(&rows);
+    let beside = random.pick(rows);
     let balance = Supply {
         unit,
         supplier: beside.supplier,
@@ -293,7 +296,7 @@ fn make_balanced(mut rows: Vec<Supply>, random: &mut Random) -> (u64, u64, Vec<S
     };
     rows.truncate(255);
     rows.push(balance);
-    (relief, 1, rows)
+    relief
 }
 
 #[cfg(test)]

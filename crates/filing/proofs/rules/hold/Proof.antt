@@ -1,5 +1,7 @@
--- Three rules, one after the other. Assumes nothing.
-use Rattle.filing.proofs.RuleLaws.{seventh-broken, eighth-broken, ninth-held}
+-- 7, then what reading parents answered, then 8 and 9. Assumes nothing.
+use mathlib.Core.Path.{ap}
+use Rattle.filing.specs.Rules.{refusalIn}
+use Rattle.filing.proofs.RuleLaws.{seventh-broken, waited, units-held}
 use borrow.Author.Needs.{needs}
 use Rattle.filing.proofs.rules.hold.Statement.{statement}
 use Rattle.filing.proofs.rules.hold.Tie as tie
@@ -13,26 +15,23 @@ enum-known-first c = search needs
 enum-told : tie.Need-enum-told
 enum-told c = search needs
 
-hold-to-requires-2 : tie.Need-hold-to-requires-2
-hold-to-requires-2 c κs = search needs
-
-enum-known-second : tie.Need-enum-known-second
-enum-known-second c = search needs
+enum-known-parents : tie.Need-enum-known-parents
+enum-known-parents c = search needs
 
 enum-told-2 : tie.Need-enum-told-2
 enum-told-2 c = search needs
 
-hold-to-requires-3 : tie.Need-hold-to-requires-3
-hold-to-requires-3 c κs = search needs
+hold-units-requires : tie.Need-hold-units-requires
+hold-units-requires c κs = search needs
 
 returns : tie.Need-returns
-returns c = seventh-broken _ _ _ _ (c .before .before .before .hold-to .ensures) (c .before .first .given .1)
+returns c = seventh-broken _ _ _ _ _ (c .before .before .before .hold-to .ensures) (c .before .first .given .1)
 
 returns-2 : tie.Need-returns-2
-returns-2 c = eighth-broken _ _ _ _ (c .before .before .before .before .before .before .hold-to .ensures) (c .before .before .before .before .enum-told .given .1) (c .before .before .before .hold-to2 .ensures) (c .before .second .given .1)
+returns-2 c = waited _ _ _ _ _ (c .before .before .before .before .before .hold-to .ensures) (c .before .before .before .enum-told .given .1) (ap refusalIn (c .before .parents .given .1))
 
 returns-3 : tie.Need-returns-3
-returns-3 c = ninth-held _ _ _ _ (c .before .before .before .before .before .before .hold-to .ensures) (c .before .before .before .before .enum-told .given .1) (c .before .before .before .hold-to2 .ensures) (c .before .enum-told2 .given .1) (c .hold-to3 .ensures)
+returns-3 c = units-held _ _ _ _ _ (c .before .before .before .before .before .hold-to .ensures) (c .before .before .before .enum-told .given .1) (ap refusalIn (c .before .enum-told2 .given .1)) (c .hold-units .ensures)
 
 pub hold-spec : {M : Type 1} → statement M
 hold-spec =
@@ -41,10 +40,9 @@ hold-spec =
     hold-to-requires
     enum-known-first
     enum-told
-    hold-to-requires-2
-    enum-known-second
+    enum-known-parents
     enum-told-2
-    hold-to-requires-3
+    hold-units-requires
     returns
     returns-2
     returns-3)

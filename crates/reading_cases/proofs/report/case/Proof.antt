@@ -2,19 +2,20 @@
 use Prim.Native.Nat.{ℕ, _≤_}
 use native.Mathlib.Omega.{arith}
 use Rattle.tables.specs.Laying.{room}
-use Rattle.tables.specs.Table.{width, constraintColumns, supplyColumns, schedulesColumns}
+use Rattle.tables.specs.Table.{width, constraintColumns, supplyColumns, schedulesColumns, parentsColumns}
 use Rattle.tables.specs.declared.files.File.{File}
-use Rattle.tables.specs.declared.files.File.the-variants.{Constraint, Supply, Schedules}
+use Rattle.tables.specs.declared.files.File.the-variants.{Constraint, Supply, Schedules, Parents}
 use borrow.Author.Needs.{needs}
 use Rattle.reading_cases.proofs.report.case.Statement.{statement}
 use Rattle.reading_cases.proofs.report.case.Tie as tie
 
 -- a run that has room for the longest file has room for each
 room-enough : (f : File) (n : ℕ) → 9216 ≤ n → room f ≤ n
-unfolding room width constraintColumns supplyColumns schedulesColumns
+unfolding room width constraintColumns supplyColumns schedulesColumns parentsColumns
 room-enough Constraint n l = omega arith
 room-enough Supply n l = omega arith
 room-enough Schedules n l = omega arith
+room-enough Parents n l = omega arith
 
 slice-aggregate-read : tie.Need-slice-aggregate-read
 slice-aggregate-read c = search needs

@@ -1,5 +1,5 @@
 -- The columns of each file, counted. Assumes nothing.
-use Rattle.tables.specs.Table.{width, constraintColumns, supplyColumns, schedulesColumns}
+use Rattle.tables.specs.Table.{width, constraintColumns, supplyColumns, schedulesColumns, parentsColumns}
 use borrow.Author.Needs.{needs}
 use Rattle.tables.proofs.files.width.Statement.{statement}
 use Rattle.tables.proofs.files.width.Tie as tie
@@ -13,6 +13,9 @@ enum-told-2 c = search needs
 enum-told-3 : tie.Need-enum-told-3
 enum-told-3 c = search needs
 
+enum-told-4 : tie.Need-enum-told-4
+enum-told-4 c = search needs
+
 returns : tie.Need-returns
 unfolding width constraintColumns
 returns c = rw (c .enum-told .given .1)
@@ -25,5 +28,9 @@ returns-3 : tie.Need-returns-3
 unfolding width schedulesColumns
 returns-3 c = rw (c .enum-told3 .given .1)
 
+returns-4 : tie.Need-returns-4
+unfolding width parentsColumns
+returns-4 c = rw (c .enum-told4 .given .1)
+
 pub width-spec : {M : Type 1} → statement M
-width-spec = tie.close (tie.spec enum-told enum-told-2 enum-told-3 returns returns-2 returns-3)
+width-spec = tie.close (tie.spec enum-told enum-told-2 enum-told-3 enum-told-4 returns returns-2 returns-3 returns-4)

@@ -1,6 +1,6 @@
 -- Each file's header. Assumes nothing.
-use Rattle.tables.specs.Table.{header, joined, headerText, constraintColumns, supplyColumns, schedulesColumns}
-use Rattle.tables.specs.declared.files.File.the-variants.{Constraint, Supply, Schedules}
+use Rattle.tables.specs.Table.{header, joined, headerText, constraintColumns, supplyColumns, schedulesColumns, parentsColumns}
+use Rattle.tables.specs.declared.files.File.the-variants.{Constraint, Supply, Schedules, Parents}
 use Rattle.tables.proofs.HeaderLaws.{header-read}
 use mathlib.Core.Path.{refl}
 use borrow.Author.Needs.{needs}
@@ -43,6 +43,18 @@ width-requires-3 c κs = search needs
 compare-fields-requires-3 : tie.Need-compare-fields-requires-3
 compare-fields-requires-3 c κs = search needs
 
+enum-told-4 : tie.Need-enum-told-4
+enum-told-4 c = search needs
+
+slice-aggregate-compare-fields-4 : tie.Need-slice-aggregate-compare-fields-4
+slice-aggregate-compare-fields-4 c = search needs
+
+width-requires-4 : tie.Need-width-requires-4
+width-requires-4 c κs = search needs
+
+compare-fields-requires-4 : tie.Need-compare-fields-requires-4
+compare-fields-requires-4 c κs = search needs
+
 returns : tie.Need-returns
 unfolding headerText joined header constraintColumns
 returns c =
@@ -61,6 +73,12 @@ returns-3 c =
     let is = c .before .before .before .enum-told3 .given .1 in
     rw is (header-read Schedules (rw is at (c .before .width3 .ensures)) refl (c .compare-fields3 .ensures))
 
+returns-4 : tie.Need-returns-4
+unfolding headerText joined header parentsColumns
+returns-4 c =
+    let is = c .before .before .before .enum-told4 .given .1 in
+    rw is (header-read Parents (rw is at (c .before .width4 .ensures)) refl (c .compare-fields4 .ensures))
+
 pub read-header-spec : {M : Type 1} → statement M
 read-header-spec =
     tie.close
@@ -77,6 +95,11 @@ read-header-spec =
     slice-aggregate-compare-fields-3
     width-requires-3
     compare-fields-requires-3
+    enum-told-4
+    slice-aggregate-compare-fields-4
+    width-requires-4
+    compare-fields-requires-4
     returns
     returns-2
-    returns-3)
+    returns-3
+    returns-4)

@@ -1,4 +1,4 @@
--- Constraint and supply, then schedules beside them. Assumes nothing.
+-- Constraint and supply, then what comes behind them. Assumes nothing.
 use mathlib.Core.Path.{refl}
 use native.Mathlib.Omega.{arith}
 use Rattle.filing.proofs.FiledLaws as filed
@@ -25,29 +25,23 @@ enum-known-filing c = search needs
 enum-known-filing-2 : tie.Need-enum-known-filing-2
 enum-known-filing-2 c = search needs
 
-slice-aggregate-decide-market : tie.Need-slice-aggregate-decide-market
-slice-aggregate-decide-market c = search needs
+slice-aggregate-decide-groups : tie.Need-slice-aggregate-decide-groups
+slice-aggregate-decide-groups c = search needs
 
-slice-aggregate-decide-market-2 : tie.Need-slice-aggregate-decide-market-2
-slice-aggregate-decide-market-2 c = search needs
+slice-aggregate-decide-groups-2 : tie.Need-slice-aggregate-decide-groups-2
+slice-aggregate-decide-groups-2 c = search needs
 
-decide-market-requires : tie.Need-decide-market-requires
-decide-market-requires c κs = let pre = c .before .before .before .before .before .before .before .before .before .before .before .before .before .before .before .pre in
-    let market = c .before .before .before .before .before .before .before .before .file-market .ensures in
-    let told = c .before .before .before .before .filing2 .given .1 in
-    (formed-units _ (pre .0), (market-cells _ _ _ _ market _ told (omega arith), (market-units _ _ _ _ market _ told (omega arith), pre .1)))
+decide-groups-requires : tie.Need-decide-groups-requires
+decide-groups-requires c κs = let pre = c .before .before .before .before .before .before .before .before .before .before .before .before .before .before .before .before .pre in let market = c .before .before .before .before .before .before .before .before .file-market .ensures in let told = c .before .before .before .before .filing2 .given .1 in (formed-units _ (pre .0), (market-cells _ _ _ _ market _ told (omega arith), (market-units _ _ _ _ market _ told (omega arith), pre .1)))
 
 returns : tie.Need-returns
-returns c = market-refused _ _ _ _ (c .before .before .before .before .before .before .before .before .before .before .before .before .pre .0) _ (filed.market-refused _ _ _ _ (c .before .before .before .before .before .file-market .ensures) _ (c .before .filing .given .1)) refl
+returns c = market-refused _ _ _ _ (c .before .before .before .before .before .before .before .before .before .before .before .before .before .pre .0) _ (filed.market-refused _ _ _ _ (c .before .before .before .before .before .file-market .ensures) _ _ (c .before .filing .given .1)) refl
 
 same-length : tie.Need-same-length
 same-length c = search needs
 
 returns-2 : tie.Need-returns-2
-returns-2 c =
-    let market = c .before .before .before .before .before .before .before .before .before .before .before .file-market .ensures in
-    let told = c .before .before .before .before .before .before .before .filing2 .given .1 in
-    market-decided _ _ _ _ (c .before .before .before .before .before .before .before .before .before .before .before .before .before .before .before .before .before .before .pre .0) (market-none _ _ _ _ market _ told) _ (market-constraint _ _ _ _ market _ told) _ (market-rows _ _ _ _ market _ told) (c .before .before .decide-market .ensures)
+returns-2 c = let market = c .before .before .before .before .before .before .before .before .before .before .before .before .file-market .ensures in let told = c .before .before .before .before .before .before .before .before .filing2 .given .1 in market-decided _ _ _ _ (c .before .before .before .before .before .before .before .before .before .before .before .before .before .before .before .before .before .before .before .before .pre .0) (market-none _ _ _ _ market _ told) _ (market-constraint _ _ _ _ market _ told) _ (market-rows _ _ _ _ market _ told) (c .before .before .before .decide-groups .ensures)
 
 pub decide-files-spec : {M : Type 1} → statement M
 decide-files-spec =
@@ -58,9 +52,9 @@ decide-files-spec =
     file-market-requires
     enum-known-filing
     enum-known-filing-2
-    slice-aggregate-decide-market
-    slice-aggregate-decide-market-2
-    decide-market-requires
+    slice-aggregate-decide-groups
+    slice-aggregate-decide-groups-2
+    decide-groups-requires
     returns
     same-length
     returns-2)

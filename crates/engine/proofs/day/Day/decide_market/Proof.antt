@@ -35,12 +35,12 @@ decide-rows-requires : tie.Need-decide-rows-requires
 decide-rows-requires c κs = let pre = c .before .before .before .before .before .before .before .before .before .before .before .before .before .before .before .before .pre in
     let filed = c .before .before .before .before .before .before .before .before .before .file-schedules .ensures in
     let told = c .before .before .before .before .before .reading2 .given .1 in
-    (pre .0, (pre .1 .0, (pre .1 .1 .0, (schedules-cells _ _ _ _ _ filed _ told (omega arith), (schedules-linked _ _ _ _ _ filed _ told, pre .1 .1 .1)))))
+    (pre .0, (pre .1 .0, (pre .1 .1 .0, (schedules-cells _ _ _ _ _ _ filed _ told (omega arith), (schedules-linked _ _ _ _ _ _ filed _ told, pre .1 .1 .1)))))
 
 returns : tie.Need-returns
 returns c =
     let units = c .before .before .before .before .before .before .before .before .before .before .before .before .pre .1 .1 .0 in
-    schedules-refused _ _ _ _ _ _ _ (rw (units .listed) at (schedules-refuse _ _ _ _ _ (c .before .before .before .before .before .file-schedules .ensures) _ (c .before .reading .given .1))) refl
+    schedules-refused _ _ _ _ _ _ _ _ (rw (units .listed) at (schedules-refuse _ _ _ _ _ _ (c .before .before .before .before .before .file-schedules .ensures) _ (c .before .reading .given .1))) refl
 
 same-length : tie.Need-same-length
 same-length c = search needs
@@ -50,7 +50,7 @@ returns-2 c =
     let units = c .before .before .before .before .before .before .before .before .before .before .before .before .before .before .before .before .before .before .before .pre .1 .1 .0 in
     let filed = c .before .before .before .before .before .before .before .before .before .before .before .before .file-schedules .ensures in
     let told = c .before .before .before .before .before .before .before .before .reading2 .given .1 in
-    schedules-decided _ _ _ _ _ _ (rw (units .listed) at (schedules-none _ _ _ _ _ filed _ told)) _ (schedules-rows _ _ _ _ _ filed _ told) (c .before .before .decide-rows .ensures)
+    schedules-decided _ _ _ _ _ _ _ (rw (units .listed) at (schedules-none _ _ _ _ _ _ filed _ told)) _ (schedules-rows _ _ _ _ _ _ filed _ told) (c .before .before .decide-rows .ensures)
 
 pub decide-market-spec : {M : Type 1} → statement M
 decide-market-spec =

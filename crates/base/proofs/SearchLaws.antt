@@ -19,7 +19,7 @@ same-test true b f g = sym (f refl)
 same-test false true f g = g refl
 same-test false false f g = refl
 
-some-none : {A B : Type 0} {x : A} → some x ≡ none → B
+pub some-none : {A B : Type 0} {x : A} → some x ≡ none → B
 some-none e = let z : _≡_ {A = ℕ} 0 1 = cc in absurd (omega arith)
 
 -- a number among some

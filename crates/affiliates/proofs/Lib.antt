@@ -1,0 +1,5 @@
+pub mod ChainLaws
+pub mod GroupLaws
+pub mod GroupingLaws
+pub mod LayingLaws
+pub mod WalkLaws

@@ -1,0 +1,3 @@
+pub mod Affiliates
+pub mod Chain
+pub mod Laying

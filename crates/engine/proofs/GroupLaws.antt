@@ -1,0 +1,222 @@
+-- From a market decided by groups to the study of the supply file as it was filed: cells by groups are such as deciding asks for,
+-- refusals are the same, and rows show the filed suppliers. Assumes nothing.
+use Prim.Native.Nat.{ℕ, _≤_}
+use mathlib.Core.Path.{_≡_, refl, sym, _∙_, ap}
+use mathlib.Core.List.{List, [], _∷_, _++_, map, append-assoc}
+use mathlib.Core.Option.{Option, none, some}
+use native.Mathlib.Omega.{arith}
+use lib.ListN.{length, take, length-map}
+use Rattle.base.specs.Search.{firstOf, All}
+use Rattle.base.proofs.Elements.{all-mem, all-of}
+use Rattle.base.proofs.FirstLaws.{first-of-between, first-of-parts-none}
+use Rattle.base.proofs.Searches.{first-of-none}
+use Rattle.tables.specs.Ranges.{PermittedSupply}
+use Rattle.tables.specs.Rows.{SupplyRow, supplyRows}
+use Rattle.tables.specs.declared.constraint.ConstraintRow.{ConstraintRow}
+use Rattle.tables.specs.declared.files.File.the-variants.{Parents}
+use Rattle.tables.specs.declared.files.Reading.{Reading}
+use Rattle.tables.specs.declared.files.Refusal.{Refusal}
+use Rattle.cells.specs.Views.{AnswerRow, answerRows}
+use Rattle.cells.proofs.RowViews.{answer-length}
+use Rattle.supply.specs.Supply.{units}
+use Rattle.affiliates.specs.Affiliates.{grouped}
+use Rattle.affiliates.specs.Laying.{SupplierCells}
+use Rattle.affiliates.proofs.GroupLaws.{grouped-units, grouped-permitted, groups-few}
+use Rattle.market.specs.Parties.{party, parties}
+use Rattle.filing.specs.Alone.{rowsUnless}
+use Rattle.filing.specs.Filing.{schedulesOf, parentsOf, aloneRefusals, schedulesRefusals, unitsRefusals, besideRefusals}
+use Rattle.filing.specs.Parents.{ParentsFiled}
+use Rattle.filing.specs.Rules.{refusalIn}
+use Rattle.filing.proofs.KeptLaws.{parents-kept}
+use Rattle.answer.proofs.StudyLetters.{decided-lettered}
+use Rattle.decision.specs.Naming.{supplierOf, allNamed}
+use Rattle.decision.specs.Standing.{MarketCells}
+use Rattle.decision.specs.Units.{UnitsOf}
+use Rattle.decision.proofs.NamingLaws.{named-rows}
+use Rattle.judge.specs.Day.{DayView}
+use Rattle.judge.specs.Decision.{decidedRow, decided, costless}
+use Rattle.judge.specs.Study.{rowsRefusals}
+use Rattle.judge.proofs.RowsToBytes.{shownUnit, rows-units}
+use Rattle.engine.specs.Deciding.{RowsReady, DecidesMarket, DecidesGroups}
+use Rattle.engine.specs.View.{viewOf}
+use Rattle.engine.specs.declared.day.Day.{Day}
+use Rattle.engine.specs.declared.deciding.Deciding.{Deciding}
+use Rattle.engine.proofs.StudyCells.{parties-suppliers}
+
+-- the refusal that an answer goes by
+waits : (o : Option Refusal) (m : ℕ) → refusalIn (rowsUnless o m) ≡ o
+waits none m = refl
+waits (some x) m = refl
+
+-- what filing parents asks of the rows of supply
+pub supplier-cells : (c : ConstraintRow) (n : ℕ) (cells : List ℕ) → MarketCells c n cells → SupplierCells n cells
+supplier-cells c n cells m = record { inside = m .rows .inside; ranged = λ r i. m .rows .permitted r i .supplier }
+
+module _ (p : List ℕ) (n : ℕ) (old new : List ℕ) {q : Reading} (filed : ParentsFiled p n old new q) where
+  abbrev waiting : Option Refusal
+  waiting = firstOf (aloneRefusals Parents p)
+
+  -- a property of rows that grouping keeps holds of the rows now
+  now-has : (P : List SupplyRow → Type 0) → P (supplyRows n old) → (waiting ≡ none → P (grouped (parentsOf p) (supplyRows n old))) → P (supplyRows n new)
+  now-has P before after = go waiting refl
+    where
+      go : (o : Option Refusal) → waiting ≡ o → P (supplyRows n new)
+      go none e = rw (filed .by-groups e) (after e)
+      go (some x) e = rw (filed .as-before x e) before
+
+  pub same-units : units (supplyRows n new) ≡ units (supplyRows n old)
+  same-units = now-has (λ (rs : List SupplyRow). units rs ≡ units (supplyRows n old)) refl (λ _. grouped-units (parentsOf p) (supplyRows n old))
+
+  pub units-grouped : (k : ℕ) (us : List ℕ) → UnitsOf k (supplyRows n old) us → UnitsOf k (supplyRows n new) us
+  units-grouped k us u =
+      record {
+        few = u .few;
+        there = u .there;
+        counted = rw same-units (u .counted);
+        listed = rw same-units (u .listed);
+        rising = rw same-units (u .rising);
+      }
+
+  few-groups : length (parties (supplyRows n old)) ≤ 32 → length (parties (supplyRows n new)) ≤ 32
+  unfolding parties party
+  few-groups h =
+      now-has (λ (rs : List SupplyRow). length (parties rs) ≤ 32) h
+      (λ _. omega (arith, groups-few (parentsOf p) (supplyRows n old), ap length (parties-suppliers (supplyRows n old))))
+
+  permitted-groups : All PermittedSupply (supplyRows n old) → All PermittedSupply (supplyRows n new)
+  unfolding aloneRefusals
+  permitted-groups a =
+      now-has (All PermittedSupply) a (λ e. grouped-permitted (parents-kept p (first-of-none _ _ e .0)) a)
+
+  pub market-grouped : (c : ConstraintRow) → length new ≡ length old → MarketCells c n old → MarketCells c n new
+  market-grouped c same m =
+      record {
+        permitted = m .permitted;
+        rows =
+            record {
+              inside = rw same (m .rows .inside);
+              few = m .rows .few;
+              permitted = λ r i. all-mem (permitted-groups (all-of (supplyRows n old) (m .rows .permitted))) i;
+            };
+        few-parties = few-groups (m .few-parties);
+      }
+
+  -- the same is refused
+  module _ (d : DayView) (c : ConstraintRow) (h : List ℕ) where
+    same-rows-refusals : rowsRefusals d c (supplyRows n new) (schedulesOf h) ≡ rowsRefusals d c (supplyRows n old) (schedulesOf h)
+    unfolding rowsRefusals costless
+    same-rows-refusals = rw same-units
+
+    same-refusal :
+        firstOf (besideRefusals (refusalIn q ∷ []) (c .hour) (units (supplyRows n new)) h ++ rowsRefusals d c (supplyRows n new) (schedulesOf h))
+        ≡ firstOf (besideRefusals (aloneRefusals Parents p) (c .hour) (units (supplyRows n old)) h ++ rowsRefusals d c (supplyRows n old) (schedulesOf h))
+    unfolding besideRefusals
+    same-refusal =
+        let us = units (supplyRows n old) in
+        let lacks = unitsRefusals (c .hour) us (schedulesOf h) in
+        let rest = rowsRefusals d c (supplyRows n old) (schedulesOf h) in
+        let asked : refusalIn q ≡ waiting = rw (filed .answers) (waits waiting (length (parentsOf p))) in
+        rw (
+          same-units,
+          same-rows-refusals,
+          asked,
+          append-assoc (schedulesRefusals us h) (waiting ∷ lacks) rest,
+          append-assoc (schedulesRefusals us h) (aloneRefusals Parents p ++ lacks) rest,
+          append-assoc (aloneRefusals Parents p) lacks rest,
+        )
+        (sym (first-of-between (schedulesRefusals us h) (aloneRefusals Parents p) (lacks ++ rest)))
+
+  -- where nothing is refused nothing waits, and the rows are those of the groups
+  module _ (d : DayView) (c : ConstraintRow) (h : List ℕ) where
+    none-waits :
+        firstOf (besideRefusals (aloneRefusals Parents p) (c .hour) (units (supplyRows n old)) h ++ rowsRefusals d c (supplyRows n old) (schedulesOf h))
+        ≡ none → waiting ≡ none
+    unfolding besideRefusals
+    none-waits e =
+        let beside = first-of-parts-none _ (rowsRefusals d c (supplyRows n old) (schedulesOf h)) e .0 in
+        let behind = first-of-parts-none (schedulesRefusals (units (supplyRows n old)) h) _ beside .1 in
+        first-of-parts-none (aloneRefusals Parents p) _ behind .0
+
+  module _
+      (day : Day) (c : ConstraintRow) (h : List ℕ) (rows : List ℕ) (r : Deciding)
+      (decides : DecidesMarket day c (supplyRows n new) (refusalIn q) h rows r)
+    where
+      abbrev decidedBy : List SupplyRow → List SupplyRow → List AnswerRow
+      decidedBy supply shown = decided c supply (schedulesOf h) (viewOf day .running) shown
+
+      abbrev groups : List SupplyRow
+      groups = grouped (parentsOf p) (supplyRows n old)
+
+      -- whatever stands in the run of rows then, as long as it stands for the same decision with the filed suppliers
+      by-shown :
+          (shown : List ℕ) →
+          ((j : ℕ) → supplyRows n new ≡ groups → answerRows j rows ≡ decidedBy (supplyRows n new) (supplyRows n new) → RowsReady (viewOf day .running) j rows →
+          (answerRows j shown ≡ decidedBy groups (supplyRows n old)) × (length shown ≡ length rows)) →
+          DecidesGroups day c (supplyRows n old) h p shown r
+      unfolding decided
+      by-shown shown stands =
+          record {
+            refuses = λ e g. sym (same-refusal (viewOf day) c h) ∙ decides .refuses e g;
+            decides = λ i j g.
+                let laid = decides .decides i j g in
+                let accepted = sym (same-refusal (viewOf day) c h) ∙ laid .accepted in
+                let by-groups = filed .by-groups (none-waits (viewOf day) c h accepted) in
+                let (is, long) = stands j by-groups (laid .laid) (laid .ready) in
+                record {
+                  accepted = accepted;
+                  at-hour = laid .at-hour;
+                  laid = is;
+                  ready = ready-too j is long by-groups (laid .laid) (laid .ready);
+                };
+          }
+        where
+          ready-too :
+              (j : ℕ) → answerRows j shown ≡ decidedBy groups (supplyRows n old) → length shown ≡ length rows → supplyRows n new ≡ groups →
+              answerRows j rows ≡ decidedBy (supplyRows n new) (supplyRows n new) → RowsReady (viewOf day .running) j rows →
+              RowsReady (viewOf day .running) j shown
+          ready-too j is long by-groups was ready =
+              let now-units : map shownUnit (answerRows j shown) ≡ units groups =
+              rw is (rows-units c groups (schedulesOf h) (viewOf day .running) (supplyRows n old) (units groups))
+              in
+              let were-units : map shownUnit (answerRows j rows) ≡ units groups =
+              rw (was, by-groups) (rows-units c groups (schedulesOf h) (viewOf day .running) groups (units groups))
+              in
+              record {
+                few = ready .few;
+                there = rw long (ready .there);
+                lettered = rw is (decided-lettered c groups (schedulesOf h) (viewOf day .running) (supplyRows n old));
+                rising = rw now-units (rw were-units at (ready .rising));
+                fit = rw now-units (rw were-units at (ready .fit));
+              }
+
+      -- the rows as they are, where there are no parents
+      pub decided-alone : new ≡ old → DecidesGroups day c (supplyRows n old) h p rows r
+      decided-alone same =
+          by-shown rows
+          (λ j by-groups was ready.
+          (was ∙ rw (← by-groups, ← (ap (supplyRows n) same)), refl))
+
+      -- the rows with the suppliers that were listed
+      pub decided-named :
+          (k : ℕ) (us : List ℕ) → UnitsOf k (supplyRows n old) us → (names : List ℕ) →
+          take k names ≡ map (supplierOf (supplyRows n old)) (units (supplyRows n old)) → (shown : List ℕ) →
+          answerRows k shown ≡ allNamed (take k names) (answerRows k rows) → length shown ≡ length rows →
+          DecidesGroups day c (supplyRows n old) h p shown r
+      unfolding decided
+      decided-named k us of-supply names listed shown are long =
+          by-shown shown
+          (λ j by-groups was ready.
+          let count : j ≡ k =
+          omega (
+            arith,
+            answer-length j rows,
+            ap length was,
+            length-map (units (supplyRows n new)) (decidedRow c (supplyRows n new) (schedulesOf h) (viewOf day .running) (supplyRows n new)),
+            ap length same-units,
+            of-supply .counted,
+          )
+          in (
+            rw (count, are, listed, ← count, was, same-units, by-groups, grouped-units (parentsOf p) (supplyRows n old))
+                (named-rows c groups (schedulesOf h) (viewOf day .running) (supplyRows n old) (units (supplyRows n old))),
+            long,
+          ))

@@ -2,7 +2,7 @@
 use Prim.Native.Nat.{ℕ, zero, suc, _+_, _*_, _≤_, _<_}
 use mathlib.Core.Path.{_≡_, refl, _∙_, ap}
 use mathlib.Core.Logic.{⊎-elim}
-use mathlib.Core.List.{List, [], _∷_, map, List·Memᴰ as Among, List·Memᴰ·head}
+use mathlib.Core.List.{List, [], _∷_, List·Memᴰ as Among, List·Memᴰ·head}
 use mathlib.Core.Option.{Option, none, some, Option·map, Option·getD}
 use native.Mathlib.Omega.{arith}
 use lib.ListN.{length, getD, set, drop, replicate, length-set, length-replicate}
@@ -13,6 +13,7 @@ use Rattle.base.proofs.Tests.{eq-or-ne}
 use Rattle.tables.specs.Rows.{SupplyRow, ParentRow, supplyRows}
 use Rattle.tables.specs.Table.{highestSupplier}
 use Rattle.cells.specs.Views.{supplyAt}
+use Rattle.cells.proofs.RowStores.{cell-kept, Changing, changing-none, changing-next, changing-over}
 use Rattle.cells.proofs.RowViews.{supply-next, supply-length}
 use Rattle.affiliates.specs.Affiliates.{parentOf, headFrom, head, inPlace, grouped}
 use Rattle.affiliates.specs.Laying.{SupplierCells, ParentRun, ParentsIn, HeadsIn, parentIn, headed}
@@ -63,81 +64,46 @@ module _ (cells : List ℕ) (i v : ℕ) where
   abbrev stored : List ℕ
   stored = set cells (i * 5 + 1) v
 
-  stored-same : i * 5 + 1 < length cells → supplyAt stored i ≡ inPlace (λ (s : ℕ). v) (supplyAt cells i)
+  stored-same : i * 5 + 1 < length cells → (f : ℕ → ℕ) → v ≡ f (supplyAt cells i .supplier) → supplyAt stored i ≡ inPlace f (supplyAt cells i)
   unfolding inPlace
-  stored-same h =
+  stored-same h f e =
       rw (
         getD-set-other cells (i * 5 + 1) (i * 5 + 0) v 0 (omega arith),
         getD-set-same cells (i * 5 + 1) v 0 h,
         getD-set-other cells (i * 5 + 1) (i * 5 + 2) v 0 (omega arith),
         getD-set-other cells (i * 5 + 1) (i * 5 + 3) v 0 (omega arith),
         getD-set-other cells (i * 5 + 1) (i * 5 + 4) v 0 (omega arith),
+        e,
       )
 
   stored-other : (j : ℕ) → (j ≡ i → ⊥) → supplyAt stored j ≡ supplyAt cells j
   stored-other j e =
       rw (
-        getD-set-other cells (i * 5 + 1) (j * 5 + 0) v 0 (λ (f : j * 5 + 0 ≡ i * 5 + 1). e (omega arith)),
-        getD-set-other cells (i * 5 + 1) (j * 5 + 1) v 0 (λ (f : j * 5 + 1 ≡ i * 5 + 1). e (omega arith)),
-        getD-set-other cells (i * 5 + 1) (j * 5 + 2) v 0 (λ (f : j * 5 + 2 ≡ i * 5 + 1). e (omega arith)),
-        getD-set-other cells (i * 5 + 1) (j * 5 + 3) v 0 (λ (f : j * 5 + 3 ≡ i * 5 + 1). e (omega arith)),
-        getD-set-other cells (i * 5 + 1) (j * 5 + 4) v 0 (λ (f : j * 5 + 4 ≡ i * 5 + 1). e (omega arith)),
+        cell-kept 5 cells i 1 v (omega arith) j 0 (omega arith) e,
+        cell-kept 5 cells i 1 v (omega arith) j 1 (omega arith) e,
+        cell-kept 5 cells i 1 v (omega arith) j 2 (omega arith) e,
+        cell-kept 5 cells i 1 v (omega arith) j 3 (omega arith) e,
+        cell-kept 5 cells i 1 v (omega arith) j 4 (omega arith) e,
       )
-
-in-place : (f : ℕ → ℕ) (v : ℕ) (r : SupplyRow) → v ≡ f (r .supplier) → inPlace (λ (s : ℕ). v) r ≡ inPlace f r
-unfolding inPlace
-in-place f v r e = rw e
-
--- rows that are each made of the row at their place are made of the rows
-rows-made :
-    (f : SupplyRow → SupplyRow) (n : ℕ) (old new : List ℕ) → ((j : ℕ) → j < n → supplyAt new j ≡ f (supplyAt old j)) →
-    supplyRows n new ≡ map f (supplyRows n old)
-rows-made f n old new made = from n 0 (omega arith)
-  where
-    from : (k i : ℕ) → k + i ≡ n → drop i (supplyRows n new) ≡ map f (drop i (supplyRows n old))
-    from zero i e =
-        rw (
-          drop-end i (supplyRows n new) (rw (supply-length n new) (omega arith)),
-          drop-end i (supplyRows n old) (rw (supply-length n old) (omega arith)),
-        )
-    from (suc k) i e =
-        rw (
-          supply-next n new i (omega arith),
-          supply-next n old i (omega arith),
-          made i (omega arith),
-          from k (i + 1) (omega arith),
-        )
 
 -- of n rows the first i have the heads of their suppliers in their places, and the others are as they were
 pub record Grouping (run : List ℕ) (rows : ℕ) (heads₀ heads : List ℕ) (n : ℕ) (old new : List ℕ) (i : ℕ) : Type 0 where
-  pub upto : i ≤ n
   pub a-run : ParentRun run
   pub heads-in : HeadsIn run rows heads
   pub heads-length : length heads ≡ length heads₀
   pub cells-in : SupplierCells n old
-  pub same-length : length new ≡ length old
-  pub done : (j : ℕ) → j < i → supplyAt new j ≡ inPlace (headFrom (parentIn run) rows) (supplyAt old j)
-  pub kept : (j : ℕ) → i ≤ j → supplyAt new j ≡ supplyAt old j
+  pub changing : Changing supplyAt (λ (j : ℕ). inPlace (headFrom (parentIn run) rows)) n old new i
 
 module _ (run : List ℕ) (rows : ℕ) (heads₀ : List ℕ) (n : ℕ) (old : List ℕ) where
   pub grouping-none : ParentRun run → HeadsIn run rows heads₀ → SupplierCells n old → Grouping run rows heads₀ heads₀ n old old 0
   grouping-none a k c =
-      record {
-        upto = omega arith;
-        a-run = a;
-        heads-in = k;
-        heads-length = refl;
-        cells-in = c;
-        same-length = refl;
-        done = λ (j : ℕ) (h : j < 0). absurd (omega arith);
-        kept = λ (j : ℕ) (h : 0 ≤ j). refl;
-      }
+      record { a-run = a; heads-in = k; heads-length = refl; cells-in = c; changing = changing-none _ _ n old }
 
   module _ (heads new : List ℕ) (i : ℕ) (g : Grouping run rows heads₀ heads n old new i) (h : i < n) where
     pub grouping-ranged : getD new (i * 5 + 1) 0 ≤ highestSupplier
     grouping-ranged =
         let here : Among (supplyAt old i) (drop i (supplyRows n old)) = rw (supply-next n old i h) (List·Memᴰ·head refl) in
-        rw (ap (λ (r : SupplyRow). r .supplier) (g .kept i (omega arith)))
+        rw (ap (λ (r : SupplyRow). r .supplier) (g .changing .kept i (omega arith)))
         (g .cells-in .ranged (supplyAt old i) (member-of-rest i (supplyRows n old) here))
 
     -- the head of the row's supplier x is found, and stored
@@ -146,38 +112,24 @@ module _ (run : List ℕ) (rows : ℕ) (heads₀ : List ℕ) (n : ℕ) (old : Li
         found ≡ headFrom (parentIn run) rows x → Grouping run rows heads₀ heads' n old (set new (i * 5 + 1) found) (i + 1)
     grouping-next heads' x found k l its is =
         record {
-          upto = omega arith;
           a-run = g .a-run;
           heads-in = k;
           heads-length = l ∙ g .heads-length;
           cells-in = g .cells-in;
-          same-length = length-set new (i * 5 + 1) found ∙ g .same-length;
-          done = done-next;
-          kept = λ (j : ℕ) (f : i + 1 ≤ j). stored-other new i found j (omega arith) ∙ g .kept j (omega arith);
+          changing =
+              changing-next _ _ n old new (set new (i * 5 + 1) found) i (g .changing) h (length-set new (i * 5 + 1) found)
+              (stored-same new i found (omega (arith, g .cells-in .inside, g .changing .same-length)) (headFrom (parentIn run) rows) (is ∙ rw its))
+              (stored-other new i found);
         }
-      where
-        here :
-            (j : ℕ) → j ≡ i → supplyAt (set new (i * 5 + 1) found) j ≡ inPlace (headFrom (parentIn run) rows) (supplyAt old j)
-        here j e =
-            let was : supplyAt new i ≡ supplyAt old i = g .kept i (omega arith) in
-            rw e
-            (stored-same new i found (omega (arith, g .cells-in .inside, g .same-length))
-            ∙ in-place (headFrom (parentIn run) rows) found (supplyAt new i) (is ∙ rw its)
-            ∙ ap (inPlace (headFrom (parentIn run) rows)) was)
-
-        done-next :
-            (j : ℕ) → j < i + 1 →
-            supplyAt (set new (i * 5 + 1) found) j ≡ inPlace (headFrom (parentIn run) rows) (supplyAt old j)
-        done-next j f =
-            ⊎-elim (here j)
-            (λ (e : j ≡ i → ⊥). stored-other new i found j e ∙ g .done j (omega arith))
-            (eq-or-ne j i)
 
   pub grouping-over :
       (heads new : List ℕ) (i : ℕ) → Grouping run rows heads₀ heads n old new i → n ≤ i →
       supplyRows n new ≡ headed run rows (supplyRows n old)
   grouping-over heads new i g h =
-      rows-made (inPlace (headFrom (parentIn run) rows)) n old new (λ (j : ℕ) (f : j < n). g .done j (omega arith))
+      changing-over _ _ n old new i (g .changing) h (supplyRows n new) (supply-length n new) (supply-next n new)
+      (λ (j : ℕ). headed run rows (drop j (supplyRows n old)))
+      (rw (drop-end n (supplyRows n old) (rw (supply-length n old) (omega arith))))
+      (λ (j : ℕ) (f : j < n). rw (supply-next n old j f))
 
 -- chains by the same parents have one head
 same-head : (f g : ℕ → Option ℕ) → ((s : ℕ) → f s ≡ g s) → (k s : ℕ) → headFrom f k s ≡ headFrom g k s

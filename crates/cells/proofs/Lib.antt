@@ -1,1 +1,2 @@
+pub mod RowStores
 pub mod RowViews

@@ -64,7 +64,7 @@ same-length : tie.Need-same-length Inv-loop μ-loop
 same-length c = c .before .loop .inv .heads-length
 
 same-length-2 : tie.Need-same-length-2 Inv-loop μ-loop
-same-length-2 c = c .before .loop .inv .same-length
+same-length-2 c = c .before .loop .inv .changing .same-length
 
 returns : tie.Need-returns Inv-loop μ-loop
 returns c = grouping-over _ _ _ _ _ _ _ _ (c .before .loop .inv) (omega arith)

@@ -32,7 +32,7 @@ mul-rows-3 : tie.Need-mul-rows-3 Inv-loop μ-loop
 mul-rows-3 c = search needs
 
 slice-write-rows : tie.Need-slice-write-rows Inv-loop μ-loop
-slice-write-rows c = omega (arith, c .before .before .loop .inv .room, c .before .before .loop .inv .same-length)
+slice-write-rows c = omega (arith, c .before .before .loop .inv .room, c .before .before .loop .inv .changing .same-length)
 
 add-i : tie.Need-add-i Inv-loop μ-loop
 add-i c = omega arith
@@ -44,7 +44,7 @@ loop-again : tie.Need-loop-again Inv-loop μ-loop
 loop-again c = naming-next _ _ _ _ _ _ (c .before .before .loop .inv) (omega arith) refl
 
 same-length : tie.Need-same-length Inv-loop μ-loop
-same-length c = c .before .loop .inv .same-length
+same-length c = c .before .loop .inv .changing .same-length
 
 returns : tie.Need-returns Inv-loop μ-loop
 returns c = naming-over _ _ _ _ _ (c .before .loop .inv) (omega arith)

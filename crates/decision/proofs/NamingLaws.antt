@@ -13,7 +13,7 @@ use Rattle.cells.proofs.RowStores.{cell-kept, Changing, changing-none, changing
 use Rattle.cells.proofs.RowViews.{answer-next, answer-length}
 use Rattle.judge.specs.Day.{RunningUnit}
 use Rattle.judge.specs.Decision.{decidedRow}
-use Rattle.decision.specs.Naming.{supplierOf, named, allNamed}
+use Rattle.decision.specs.Naming.{supplierOf, named, allNamed, RowsNamed}
 
 -- a store of a supplier: its row, and another
 module _ (cells : List ℕ) (i v : ℕ) where
@@ -48,11 +48,12 @@ module _ (cells : List ℕ) (i v : ℕ) where
 pub record Naming (suppliers : List ℕ) (k : ℕ) (old new : List ℕ) (i : ℕ) : Type 0 where
   pub listed : k ≤ length suppliers
   pub room : k * 7 ≤ length old
+  pub untouched : i ≡ 0 → new ≡ old
   pub changing : Changing answerAt (λ (j : ℕ). named (getD suppliers j 0)) k old new i
 
 module _ (suppliers : List ℕ) (k : ℕ) (old : List ℕ) where
   pub naming-none : k ≤ length suppliers → k * 7 ≤ length old → Naming suppliers k old old 0
-  naming-none l r = record { listed = l; room = r; changing = changing-none _ _ k old }
+  naming-none l r = record { listed = l; room = r; untouched = λ _. refl; changing = changing-none _ _ k old }
 
   pub naming-next :
       (new : List ℕ) (i s : ℕ) → Naming suppliers k old new i → i < k → s ≡ getD suppliers i 0 →
@@ -61,17 +62,18 @@ module _ (suppliers : List ℕ) (k : ℕ) (old : List ℕ) where
       record {
         listed = n .listed;
         room = n .room;
+        untouched = λ e. absurd (omega arith);
         changing =
             changing-next _ _ k old new (set new (i * 7 + 1) s) i (n .changing) h (length-set new (i * 7 + 1) s)
             (stored-same new i s (omega (arith, n .room, n .changing .same-length)) ∙ rw its)
             (stored-other new i s);
       }
 
-  pub naming-over :
+  all-named :
       (new : List ℕ) (i : ℕ) → Naming suppliers k old new i → k ≤ i →
       answerRows k new ≡ allNamed (take k suppliers) (answerRows k old)
   unfolding allNamed
-  naming-over new i n h =
+  all-named new i n h =
       let listed = length-take-le k suppliers (n .listed) in
       changing-over _ _ k old new i (n .changing) h (answerRows k new) (answer-length k new) (answer-next k new)
       (λ (j : ℕ). allNamed (drop j (take k suppliers)) (drop j (answerRows k old)))
@@ -82,6 +84,10 @@ module _ (suppliers : List ℕ) (k : ℕ) (old : List ℕ) where
         drop-next 0 j (take k suppliers) (rw listed f),
         getD-take k suppliers j 0 f,
       ))
+
+  pub naming-over : (new : List ℕ) (i : ℕ) → Naming suppliers k old new i → k ≤ i → RowsNamed suppliers k old new
+  naming-over new i n h =
+      record { rows = all-named new i n h; none = λ e. n .untouched (omega (arith, n .changing .upto)) }
 
 -- rows that were decided by groups, with the suppliers of the supply file
 pub named-rows :

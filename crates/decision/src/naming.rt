@@ -5,10 +5,10 @@ ghost use mathlib.Core.List.{map};
 ghost use Prim.Native.Nat.{_*_, _≤_};
 ghost use lib.ListN.{length, take};
 ghost use Rattle.tables.specs.Rows.{supplyRows};
-ghost use Rattle.cells.specs.Views.{answerWidth, answerRows};
+ghost use Rattle.cells.specs.Views.{answerWidth};
 ghost use Rattle.offers.specs.Ranges.{SupplyCells};
 ghost use Rattle.supply.specs.Supply.{units as Supply·units};
-ghost use Rattle.decision.specs.Naming.{supplierOf, allNamed};
+ghost use Rattle.decision.specs.Naming.{supplierOf, RowsNamed};
 ghost use Rattle.decision.specs.Units.{UnitsOf};
 use crate::units::row_of;
 use cells::answer::SUPPLIER;
@@ -34,7 +34,7 @@ pub fn list_suppliers(supply: &[u64], n: usize, units: &[u64], k: usize, supplie
 pub fn name_suppliers(suppliers: &[u64], k: usize, rows: &mut [u64])
     requires { ⌜ k ≤ length (now suppliers) ⌝ }
     requires { ⌜ k * answerWidth ≤ length (now rows) ⌝ }
-    ensures { λ _. ⌜ answerRows k (now (rows .exit)) ≡ allNamed (take k (now (suppliers .entry))) (answerRows k (now (rows .entry))) ⌝ }
+    ensures { λ _. ⌜ RowsNamed (now (suppliers .entry)) k (now (rows .entry)) (now (rows .exit)) ⌝ }
 {
     let mut i = 0;
     while i < k {

@@ -2,6 +2,7 @@
 -- refusals are the same, and rows show the filed suppliers. Assumes nothing.
 use Prim.Native.Nat.{ℕ, _≤_}
 use mathlib.Core.Path.{_≡_, refl, sym, _∙_, ap}
+use mathlib.Core.Logic.{⊎-elim}
 use mathlib.Core.List.{List, [], _∷_, _++_, map, append-assoc}
 use mathlib.Core.Option.{Option, none, some}
 use native.Mathlib.Omega.{arith}
@@ -10,6 +11,7 @@ use Rattle.base.specs.Search.{firstOf, All}
 use Rattle.base.proofs.Elements.{all-mem, all-of}
 use Rattle.base.proofs.FirstLaws.{first-of-between, first-of-parts-none}
 use Rattle.base.proofs.Searches.{first-of-none}
+use Rattle.base.proofs.Tests.{eq-or-ne}
 use Rattle.tables.specs.Ranges.{PermittedSupply}
 use Rattle.tables.specs.Rows.{SupplyRow, supplyRows}
 use Rattle.tables.specs.declared.constraint.ConstraintRow.{ConstraintRow}
@@ -28,8 +30,9 @@ use Rattle.filing.specs.Filing.{schedulesOf, parentsOf, aloneRefusals, schedule
 use Rattle.filing.specs.Parents.{ParentsFiled}
 use Rattle.filing.specs.Rules.{refusalIn}
 use Rattle.filing.proofs.KeptLaws.{parents-kept}
+use Rattle.filing.proofs.ParentsLaws.{no-groups}
 use Rattle.answer.proofs.StudyLetters.{decided-lettered}
-use Rattle.decision.specs.Naming.{supplierOf, allNamed}
+use Rattle.decision.specs.Naming.{supplierOf, allNamed, RowsNamed}
 use Rattle.decision.specs.Standing.{MarketCells}
 use Rattle.decision.specs.Units.{UnitsOf}
 use Rattle.decision.proofs.NamingLaws.{named-rows}
@@ -37,7 +40,7 @@ use Rattle.judge.specs.Day.{DayView}
 use Rattle.judge.specs.Decision.{decidedRow, decided, costless}
 use Rattle.judge.specs.Study.{rowsRefusals}
 use Rattle.judge.proofs.RowsToBytes.{shownUnit, rows-units}
-use Rattle.engine.specs.Deciding.{RowsReady, DecidesMarket, DecidesGroups}
+use Rattle.engine.specs.Deciding.{RowsReady, DecidesMarket, DecidesGroups, FiledListed}
 use Rattle.engine.specs.View.{viewOf}
 use Rattle.engine.specs.declared.day.Day.{Day}
 use Rattle.engine.specs.declared.deciding.Deciding.{Deciding}
@@ -51,6 +54,23 @@ waits (some x) m = refl
 -- what filing parents asks of the rows of supply
 pub supplier-cells : (c : ConstraintRow) (n : ℕ) (cells : List ℕ) → MarketCells c n cells → SupplierCells n cells
 supplier-cells c n cells m = record { inside = m .rows .inside; ranged = λ r i. m .rows .permitted r i .supplier }
+
+-- suppliers that are listed, or none
+module _ (p : List ℕ) (k : ℕ) (rows : List SupplyRow) (run : List ℕ) where
+  pub none-listed : length p ≡ 0 → FiledListed p k rows run 0
+  none-listed e = record { none-listed = λ _. refl; all-listed = λ some-bytes. absurd (some-bytes e) }
+
+  pub all-listed :
+      (length p ≡ 0 → ⊥) → take k run ≡ map (supplierOf rows) (units rows) → FiledListed p k rows run k
+  all-listed some-bytes listed =
+      record { none-listed = λ e. absurd (some-bytes e); all-listed = λ _. (refl, listed) }
+
+  pub listed-few : (r : ℕ) → FiledListed p k rows run r → r ≤ k
+  listed-few r listed =
+      ⊎-elim
+      (λ (e : length p ≡ 0). omega (arith, listed .none-listed e))
+      (λ (e : length p ≡ 0 → ⊥). omega (arith, listed .all-listed e .0))
+      (eq-or-ne (length p) 0)
 
 module _ (p : List ℕ) (n : ℕ) (old new : List ℕ) {q : Reading} (filed : ParentsFiled p n old new q) where
   abbrev waiting : Option Refusal
@@ -190,33 +210,42 @@ module _ (p : List ℕ) (n : ℕ) (old new : List ℕ) {q : Reading} (filed : Pa
               }
 
       -- the rows as they are, where there are no parents
-      pub decided-alone : new ≡ old → DecidesGroups day c (supplyRows n old) h p rows r
-      decided-alone same =
-          by-shown rows
-          (λ j by-groups was ready.
-          (was ∙ rw (← by-groups, ← (ap (supplyRows n) same)), refl))
+      decided-alone : length p ≡ 0 → DecidesGroups day c (supplyRows n old) h p rows r
+      decided-alone empty =
+          let own = no-groups p empty (supplyRows n old) in
+          by-shown rows (λ j by-groups was ready. (was ∙ rw (by-groups, own), refl))
 
       -- the rows with the suppliers that were listed
-      pub decided-named :
-          (k : ℕ) (us : List ℕ) → UnitsOf k (supplyRows n old) us → (names : List ℕ) →
-          take k names ≡ map (supplierOf (supplyRows n old)) (units (supplyRows n old)) → (shown : List ℕ) →
-          answerRows k shown ≡ allNamed (take k names) (answerRows k rows) → length shown ≡ length rows →
-          DecidesGroups day c (supplyRows n old) h p shown r
-      unfolding decided
-      decided-named k us of-supply names listed shown are long =
-          by-shown shown
-          (λ j by-groups was ready.
-          let count : j ≡ k =
-          omega (
-            arith,
-            answer-length j rows,
-            ap length was,
-            length-map (units (supplyRows n new)) (decidedRow c (supplyRows n new) (schedulesOf h) (viewOf day .running) (supplyRows n new)),
-            ap length same-units,
-            of-supply .counted,
-          )
-          in (
-            rw (count, are, listed, ← count, was, same-units, by-groups, grouped-units (parentsOf p) (supplyRows n old))
-                (named-rows c groups (schedulesOf h) (viewOf day .running) (supplyRows n old) (units (supplyRows n old))),
-            long,
-          ))
+      module _ (k : ℕ) (us : List ℕ) (of-supply : UnitsOf k (supplyRows n old) us) (names shown : List ℕ) (long : length shown ≡ length rows) where
+        decided-named :
+            take k names ≡ map (supplierOf (supplyRows n old)) (units (supplyRows n old)) →
+            answerRows k shown ≡ allNamed (take k names) (answerRows k rows) → DecidesGroups day c (supplyRows n old) h p shown r
+        unfolding decided
+        decided-named listed are =
+            by-shown shown
+            (λ j by-groups was ready.
+            let count : j ≡ k =
+            omega (
+              arith,
+              answer-length j rows,
+              ap length was,
+              length-map (units (supplyRows n new)) (decidedRow c (supplyRows n new) (schedulesOf h) (viewOf day .running) (supplyRows n new)),
+              ap length same-units,
+              of-supply .counted,
+            )
+            in (
+              rw (count, are, listed, ← count, was, same-units, by-groups, grouped-units (parentsOf p) (supplyRows n old))
+                  (named-rows c groups (schedulesOf h) (viewOf day .running) (supplyRows n old) (units (supplyRows n old))),
+              long,
+            ))
+
+        pub groups-decided :
+            (count : ℕ) → FiledListed p k (supplyRows n old) names count → RowsNamed names count rows shown →
+            DecidesGroups day c (supplyRows n old) h p shown r
+        groups-decided count listed are =
+            ⊎-elim
+            (λ (empty : length p ≡ 0). rw (are .none (listed .none-listed empty)) (decided-alone empty))
+            (λ (some-bytes : length p ≡ 0 → ⊥).
+            let (all, filed-ones) = listed .all-listed some-bytes in
+            decided-named filed-ones (rw all at (are .rows)))
+            (eq-or-ne (length p) 0)

@@ -4,7 +4,7 @@ use Prim.Native.Nat.{ℕ, _*_, _≤_}
 use mathlib.Core.Path.{_≡_}
 use mathlib.Core.List.{List, [], _∷_, _++_, map}
 use mathlib.Core.Option.{Option, none, some}
-use lib.ListN.{length}
+use lib.ListN.{length, take}
 use Rattle.base.specs.Rising.{RisingFrom}
 use Rattle.base.specs.Search.{All, firstOf}
 use Rattle.tables.specs.Rows.{SupplyRow, ScheduleRow}
@@ -16,6 +16,7 @@ use Rattle.answer.specs.Rows.{Lettered}
 use Rattle.filing.specs.Filing.{Files, constraintOf, schedulesOf, parentsOf, aloneRefusals, besideRefusals}
 use Rattle.affiliates.specs.Affiliates.{grouped}
 use Rattle.tables.specs.declared.files.File.the-variants.{Parents}
+use Rattle.decision.specs.Naming.{supplierOf}
 use Rattle.judge.specs.Day.{RunningUnit, mostRunning, wouldRun}
 use Rattle.judge.specs.Decision.{decided}
 use Rattle.judge.specs.Study.{rowsRefusals, studyRows, decisionRefusal}
@@ -77,3 +78,8 @@ DecidesGroups day c filed h p new r =
 abbrev pub DecidesStudy : Day → Files → List ℕ → Deciding → Type 0
 DecidesStudy day f new r =
     Decides (decisionRefusal (viewOf day) f) (constraintOf (f .constraint) .hour) (studyRows (viewOf day) f) (viewOf day .running) new r
+
+-- the filed suppliers of the units of supply at the start of a run, and how many; none where there are no parents
+pub record FiledListed (p : List ℕ) (k : ℕ) (filed : List SupplyRow) (run : List ℕ) (r : ℕ) : Type 0 where
+  pub none-listed : length p ≡ 0 → r ≡ 0
+  pub all-listed : (length p ≡ 0 → ⊥) → (r ≡ k) × (take k run ≡ map (supplierOf filed) (units filed))

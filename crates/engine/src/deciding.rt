@@ -20,7 +20,7 @@ ghost use Rattle.judge.specs.Day.{dayFormed, stateRefused};
 ghost use Rattle.running.specs.Forming.{unitsFormed};
 ghost use Rattle.running.specs.View.{unitsOf};
 ghost use Rattle.engine.specs.View.{viewOf};
-ghost use Rattle.engine.specs.Deciding.{DecidesStudy, DecidesGroups, DecidesMarket, DecidesRows};
+ghost use Rattle.engine.specs.Deciding.{DecidesStudy, DecidesGroups, DecidesMarket, DecidesRows, FiledListed};
 use crate::day::Day;
 use crate::refusals::EARLIER_HOUR;
 use crate::refusals::ILL_FORMED;
@@ -110,13 +110,8 @@ impl Day {
         requires { ⌜ mostUnits * answerWidth ≤ length (now rows) ⌝ }
         ensures { λ r. ⌜ DecidesGroups self (market .constraint) (supplyRows (market .rows) (now (supply .entry))) (now (schedules .entry)) (now (parents .entry)) (now (rows .exit)) r ⌝ }
     {
-        if parents.len() == 0 {
-            let no_parents = Reading::Rows(0);
-            return self.decide_market(market, no_parents, supply, units, schedules, rows);
-        }
         let mut suppliers = [0u64; UNITS];
-        let count = market.units;
-        list_suppliers(supply, market.rows, units, count, &mut suppliers);
+        let count = list_filed(parents, market, supply, units, &mut suppliers);
         let reading = file_parents(parents, supply, market.rows);
         let deciding = self.decide_market(market, reading, supply, units, schedules, rows);
         name_suppliers(&suppliers, count, rows);
@@ -201,6 +196,28 @@ impl Day {
             }
         }
     }
+}
+
+// Lists the supplier of each unit, and answers how many are listed; none where there are no parents,
+// since rows show the filed suppliers then.
+fn list_filed(
+    parents: &[u8],
+    market: Market,
+    supply: &[u64],
+    units: &[u64],
+    suppliers: &mut [u64],
+) -> usize
+    requires { ⌜ MarketCells (market .constraint) (market .rows) (now supply) ⌝ }
+    requires { ⌜ UnitsOf (market .units) (supplyRows (market .rows) (now supply)) (now units) ⌝ }
+    requires { ⌜ mostUnits ≤ length (now suppliers) ⌝ }
+    ensures { λ r. ⌜ FiledListed (now (parents .entry)) (market .units) (supplyRows (market .rows) (now (supply .entry))) (now (suppliers .exit)) r ⌝ }
+{
+    if parents.len() == 0 {
+        return 0;
+    }
+    let count = market.units;
+    list_suppliers(supply, market.rows, units, count, suppliers);
+    count
 }
 
 // 21, at a unit of the schedules.

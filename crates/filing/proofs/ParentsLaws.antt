@@ -10,7 +10,7 @@ use Rattle.base.proofs.Elements.{all-mem}
 use Rattle.base.proofs.FirstLaws.{first-of-one, first-of-here, first-of-later}
 use Rattle.tables.specs.Laying.{FileRead, room}
 use Rattle.tables.specs.Reading.{refused, refusal}
-use Rattle.tables.specs.Rows.{ParentRow, supplyRows, parentRows}
+use Rattle.tables.specs.Rows.{SupplyRow, ParentRow, supplyRows, parentRows}
 use Rattle.tables.specs.declared.files.File.the-variants.{Parents}
 use Rattle.tables.specs.declared.files.Reading.{Reading}
 use Rattle.tables.specs.declared.files.Reading.the-variants.{Rows as RowsRead, Refused as NotRead}
@@ -18,7 +18,7 @@ use Rattle.tables.specs.declared.files.Refusal.{Refusal}
 use Rattle.tables.proofs.Accepted.{accepted}
 use Rattle.tables.proofs.Starred.{starred·all}
 use Rattle.cells.proofs.RowViews.{parent-length}
-use Rattle.affiliates.specs.Affiliates.{sameSupplier, givenTwice, returns, ringed, affiliates·all}
+use Rattle.affiliates.specs.Affiliates.{sameSupplier, givenTwice, returns, ringed, grouped, affiliates·all}
 use Rattle.affiliates.specs.Laying.{ParentCells, ParentsIn, ParentsLaid, headed}
 use Rattle.affiliates.proofs.GroupLaws.{no-parents}
 use Rattle.affiliates.proofs.GroupingLaws.{headed-grouped}
@@ -45,11 +45,15 @@ pub none-refused : firstOf (aloneRefusals Parents []) ≡ none
 unfolding filing·all starred·all affiliates·all
 none-refused = refl
 
+pub no-groups : (p : List ℕ) → length p ≡ 0 → (rs : List SupplyRow) → grouped (parentsOf p) rs ≡ rs
+no-groups [] e rs = rw no-rows (no-parents rs)
+no-groups (b ∷ p) e rs = absurd (omega arith)
+
 pub no-parents-filed : (p : List ℕ) → length p ≡ 0 → (n : ℕ) (supply : List ℕ) → ParentsFiled p n supply supply (RowsRead 0)
 no-parents-filed [] e n supply =
     record {
       answers = rw (none-refused, no-rows);
-      by-groups = λ _. rw no-rows (sym (no-parents (supplyRows n supply)));
+      by-groups = λ _. sym (no-groups [] e (supplyRows n supply));
       as-before = λ _ _. refl;
     }
 no-parents-filed (b ∷ p) e n supply = absurd (omega arith)

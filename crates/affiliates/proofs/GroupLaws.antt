@@ -3,7 +3,7 @@
 use Prim.Native.Nat.{ℕ, zero, suc, _≤_}
 use mathlib.Core.Path.{_≡_, refl, sym, _∙_, ap, subst}
 use mathlib.Core.Logic.{⊎-elim}
-use mathlib.Core.Bool.{Bool, true, false, cond, not, _&&_, _||_, or-true}
+use mathlib.Core.Bool.{Bool, true, false, not, _&&_, _||_, or-true}
 use mathlib.Core.List.{List, [], _∷_, map}
 use mathlib.Core.Option.{Option, none, some, Option·map, Option·getD}
 use native.Mathlib.Omega.{arith}
@@ -11,7 +11,7 @@ use lib.Dec.{eqb}
 use lib.ListN.{length}
 use borrow.Author.Tests.{eq-eqb, ne-eqb, eqb-true}
 use Rattle.base.specs.Rising.{inserted, among, next}
-use Rattle.base.specs.Search.{any, find, firstAtOdds, All, all-none, all-more}
+use Rattle.base.specs.Search.{any, firstAtOdds, All, all-none, all-more}
 use Rattle.base.proofs.Elements.{all-mem}
 use Rattle.base.proofs.RisingLaws.{inserted-cases, inserted-there, inserted-new, inserted-most, inserted-least, among-inserted, not-among}
 use Rattle.base.proofs.SearchLaws.{odds-none}
@@ -71,24 +71,6 @@ module _ (number : ℕ → ℕ) where
       let (alone, others) = odds-none supplyOdds seen k r rs f in
       rw (none-odds r seen alone) (still-agree (r ∷ seen) (suc k) rs others)
 
-  find-in-place :
-      (u : ℕ) (rs : List SupplyRow) →
-      find (λ (r : SupplyRow). eqb (r .unit) u) (map (inPlace number) rs)
-      ≡ Option·map (inPlace number) (find (λ (r : SupplyRow). eqb (r .unit) u) rs)
-  unfolding find inPlace
-  find-in-place u [] = refl
-  find-in-place u (r ∷ rs) = go (eqb (r .unit) u) (find-in-place u rs)
-    where
-      its : SupplyRow → Bool
-      its r = eqb (r .unit) u
-
-      go :
-          (t : Bool) → find its (map (inPlace number) rs) ≡ Option·map (inPlace number) (find its rs) →
-          cond t (some (inPlace number r)) (find its (map (inPlace number) rs))
-          ≡ Option·map (inPlace number) (cond t (some r) (find its rs))
-      go true h = refl
-      go false h = h
-
 -- a unit counts once, in a group or not
 pub grouped-units : (ps : List ParentRow) (rs : List SupplyRow) → units (grouped ps rs) ≡ units rs
 unfolding units numbersOf grouped
@@ -98,14 +80,6 @@ grouped-units ps rs = same-units (head ps) [] rs
 pub grouped-agree : (ps : List ParentRow) (rs : List SupplyRow) → supplyAtOdds rs ≡ none → supplyAtOdds (grouped ps rs) ≡ none
 unfolding supplyAtOdds grouped
 grouped-agree ps rs f = still-agree (head ps) [] 1 rs f
-
--- a unit's first row is its first row by groups
-pub unit-in-group :
-    (ps : List ParentRow) (rs : List SupplyRow) (u : ℕ) →
-    find (λ (r : SupplyRow). eqb (r .unit) u) (grouped ps rs)
-    ≡ Option·map (inPlace (head ps)) (find (λ (r : SupplyRow). eqb (r .unit) u) rs)
-unfolding grouped
-unit-in-group ps rs u = find-in-place (head ps) u rs
 
 -- heads are within the range of suppliers
 abbrev Ranged : ℕ → Type 0

@@ -10,12 +10,6 @@ use crate::run::Asked;
 /// Answers a line.
 type Answer = fn(&[u8]) -> String;
 
-/// The engine in this process, where it is linked.
-#[cfg(feature = "engine")]
-const LINKED: Option<Answer> = Some(capping_replay::answer);
-#[cfg(not(feature = "engine"))]
-const LINKED: Option<Answer> = None;
-
 /// Who is held against the model.
 pub enum Engine {
     Linked(Answer),
@@ -32,7 +26,7 @@ impl Engine {
     /// The engine in this process where no program is named.
     pub fn named(program: &[&str]) -> Option<Engine> {
         match program {
-            [] => LINKED.map(Engine::Linked),
+            [] => Some(Engine::Linked(capping_replay::answer)),
             [program] => Some(Engine::Program(program.to_string())),
             _ => None,
         }

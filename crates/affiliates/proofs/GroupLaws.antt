@@ -19,7 +19,7 @@ use Rattle.base.proofs.Tests.{false-true, either, eq-or-ne, or-fst, or-snd}
 use Rattle.numbers.specs.Numbers.{numbersFrom, numbersOf}
 use Rattle.numbers.proofs.NumberLaws.{Rises, Rises.nothing, Rises.from, inserted-rises}
 use Rattle.supply.specs.Supply.{units, suppliers, supplyOdds, supplyAtOdds}
-use Rattle.tables.specs.Ranges.{PermittedSupply, PermittedParent}
+use Rattle.tables.specs.promises.Ranges.{PermittedSupply, PermittedParent}
 use Rattle.tables.specs.Rows.{SupplyRow, ParentRow}
 use Rattle.tables.specs.Table.{highestSupplier}
 use Rattle.affiliates.specs.Affiliates.{parentOf, headFrom, head, inPlace, grouped}

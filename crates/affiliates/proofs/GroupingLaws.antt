@@ -10,13 +10,14 @@ use lib.Seq.{getD-set-same, getD-set-other}
 use Rattle.base.proofs.Lists.{drop-end}
 use Rattle.base.proofs.Members.{member-of-rest}
 use Rattle.base.proofs.Tests.{eq-or-ne}
-use Rattle.tables.specs.Rows.{SupplyRow, ParentRow, supplyRows}
+use Rattle.tables.specs.Rows.{SupplyRow, ParentRow}
 use Rattle.tables.specs.Table.{highestSupplier}
-use Rattle.cells.specs.Views.{supplyAt}
+use Rattle.tables.specs.promises.FlatRows.{supplyRows}
+use Rattle.cells.specs.promises.Views.{supplyAt}
 use Rattle.cells.proofs.RowStores.{cell-kept, Changing, changing-none, changing-next, changing-over}
 use Rattle.cells.proofs.RowViews.{supply-next, supply-length}
 use Rattle.affiliates.specs.Affiliates.{parentOf, headFrom, head, inPlace, grouped}
-use Rattle.affiliates.specs.Laying.{SupplierCells, ParentRun, ParentsIn, HeadsIn, parentIn, headed}
+use Rattle.affiliates.specs.promises.Laying.{SupplierCells, ParentRun, ParentsIn, HeadsIn, parentIn, headed}
 use Rattle.affiliates.proofs.LayingLaws.{cleared}
 
 -- no head is found yet

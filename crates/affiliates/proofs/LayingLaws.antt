@@ -14,13 +14,14 @@ use borrow.Author.Tests.{eq-eqb, ne-eqb}
 use Rattle.base.specs.Search.{any, find, firstAtOdds}
 use Rattle.base.proofs.Lists.{drop-end}
 use Rattle.base.proofs.Tests.{eq-or-ne}
-use Rattle.tables.specs.Rows.{ParentRow, parentRows}
+use Rattle.tables.specs.Rows.{ParentRow}
 use Rattle.tables.specs.Table.{highestSupplier}
-use Rattle.tables.specs.Ranges.{PermittedParent}
-use Rattle.cells.specs.Views.{parentAt}
+use Rattle.tables.specs.promises.Ranges.{PermittedParent}
+use Rattle.tables.specs.promises.FlatRows.{parentRows}
+use Rattle.cells.specs.promises.Views.{parentAt}
 use Rattle.cells.proofs.RowViews.{parent-next, parent-length}
 use Rattle.affiliates.specs.Affiliates.{parentOf, sameSupplier, givenTwice}
-use Rattle.affiliates.specs.Laying.{ParentCells, Cleared, ParentsLaid, parentIn}
+use Rattle.affiliates.specs.promises.Laying.{ParentCells, Cleared, ParentsLaid, parentIn}
 use Rattle.affiliates.proofs.WalkLaws.{parent-none, parent-some, parent-among}
 
 -- what is there, or else another

@@ -1,4 +1,5 @@
 pub mod ChainLaws
+pub mod Computing
 pub mod GroupLaws
 pub mod GroupingLaws
 pub mod LayingLaws

@@ -14,12 +14,13 @@ use Rattle.base.specs.Search.{first}
 use Rattle.base.proofs.Lists.{drop-end}
 use Rattle.base.proofs.Members.{member-of-rest}
 use Rattle.base.proofs.Searches.{first-here, first-later}
-use Rattle.tables.specs.Rows.{ParentRow, parentRows}
+use Rattle.tables.specs.Rows.{ParentRow}
 use Rattle.tables.specs.Table.{highestSupplier}
-use Rattle.cells.specs.Views.{parentAt}
+use Rattle.tables.specs.promises.FlatRows.{parentRows}
+use Rattle.cells.specs.promises.Views.{parentAt}
 use Rattle.cells.proofs.RowViews.{parent-next, parent-length}
 use Rattle.affiliates.specs.Affiliates.{parentOf, headFrom, comesBack, returns, ringed}
-use Rattle.affiliates.specs.Laying.{ParentCells, ParentsIn, parentIn}
+use Rattle.affiliates.specs.promises.Laying.{ParentCells, ParentsIn, parentIn}
 
 module _ (run : List ℕ) where
   pub parent-none : (s : ℕ) → getD run s 0 ≡ 0 → parentIn run s ≡ none

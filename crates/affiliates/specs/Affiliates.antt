@@ -48,18 +48,7 @@ ringed ps = first (returns ps) 1 ps
 -- "The head stands in for the supplier in the test": a row with another number for its supplier
 unfoldable pub inPlace : (ℕ → ℕ) → SupplyRow → SupplyRow
 inPlace number r =
-    record {
-      unit = r .unit;
-      supplier = number (r .supplier);
-      mw = r .mw;
-      cost = r .cost;
-      dfax = r .dfax;
-    }
+    record { unit = r .unit; supplier = number (r .supplier); mw = r .mw; cost = r .cost; dfax = r .dfax }
 
 unfoldable pub grouped : List ParentRow → List SupplyRow → List SupplyRow
 grouped ps rs = map (inPlace (head ps)) rs
-
--- opens all of the above, for examples that compute
-unfoldable pub affiliates·all : Unit {0}
-unfolding parentOf headFrom comesBack head sameSupplier givenTwice returns ringed inPlace grouped
-affiliates·all = tt

@@ -1,3 +1,3 @@
 pub mod Affiliates
 pub mod Chain
-pub mod Laying
+pub mod promises

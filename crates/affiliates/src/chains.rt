@@ -2,10 +2,10 @@
 ghost use mathlib.Core.Path.{_≡_};
 ghost use mathlib.Core.Option.{Option·getD};
 ghost use Prim.Native.Nat.{_≤_};
-ghost use Rattle.tables.specs.Rows.{parentRows};
 ghost use Rattle.tables.specs.Table.{highestSupplier};
+ghost use Rattle.tables.specs.promises.FlatRows.{parentRows};
 ghost use Rattle.affiliates.specs.Affiliates.{headFrom, comesBack, ringed as Affiliates·ringed};
-ghost use Rattle.affiliates.specs.Laying.{ParentCells, ParentRun, ParentsIn, parentIn};
+ghost use Rattle.affiliates.specs.promises.Laying.{ParentCells, ParentRun, ParentsIn, parentIn};
 use crate::parents::at_place;
 use cells::parent::SUPPLIER;
 use cells::parent::WIDTH;

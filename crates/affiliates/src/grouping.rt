@@ -2,10 +2,10 @@
 // different supplier.
 ghost use mathlib.Core.Path.{_≡_};
 ghost use Prim.Native.Nat.{_≤_};
-ghost use Rattle.tables.specs.Rows.{supplyRows};
 ghost use Rattle.tables.specs.Table.{highestSupplier};
+ghost use Rattle.tables.specs.promises.FlatRows.{supplyRows};
 ghost use Rattle.affiliates.specs.Affiliates.{headFrom};
-ghost use Rattle.affiliates.specs.Laying.{SupplierCells, ParentRun, HeadsIn, parentIn, headed};
+ghost use Rattle.affiliates.specs.promises.Laying.{SupplierCells, ParentRun, HeadsIn, parentIn, headed};
 use crate::chains::head;
 use crate::parents::PLACES;
 use crate::parents::at_place;

@@ -3,9 +3,9 @@
 ghost use mathlib.Core.Path.{_≡_};
 ghost use Prim.Native.Nat.{_<_};
 ghost use lib.ListN.{length, getD};
-ghost use Rattle.tables.specs.Rows.{parentRows};
 ghost use Rattle.tables.specs.Table.{highestSupplier};
-ghost use Rattle.affiliates.specs.Laying.{ParentCells, Cleared, ParentsLaid};
+ghost use Rattle.tables.specs.promises.FlatRows.{parentRows};
+ghost use Rattle.affiliates.specs.promises.Laying.{ParentCells, Cleared, ParentsLaid};
 use cells::parent::PARENT;
 use cells::parent::SUPPLIER;
 use cells::parent::WIDTH;

@@ -1,4 +1,4 @@
--- Laws of the answer's text: a record by its parts, its length, and the rows of a run of cells, one after the other. Assumes
+-- Laws of the answer's text: a record by its parts, their lengths, and the rows of a run of cells, one after the other. Assumes
 -- nothing.
 use Prim.Native.Nat.{ℕ, zero, suc, _+_, _≤_, _<_}
 use mathlib.Core.Path.{_≡_, refl, sym, _∙_, ap}
@@ -12,12 +12,12 @@ use Rattle.base.proofs.Lists.{drop-end}
 use Rattle.base.proofs.Searches.{all-drop, all-head}
 use Rattle.numeral.specs.Numeral.{digits}
 use Rattle.cells.proofs.RowViews.{answer-next, answer-length}
-use Rattle.cells.specs.Views.{AnswerRow, answerRows, answerAt}
-use Rattle.judge.specs.Answer.{COMMA, CRLF, line, lines, answerHeader, answerText}
-use Rattle.answer.specs.Lengths.{fixedBytes}
-use Rattle.answer.specs.Longest.{headerBytes}
-use Rattle.answer.specs.Parts.{numberField, letterField, lastField, idsPart, testPart, schedulePart}
-use Rattle.answer.specs.Rows.{Lettered}
+use Rattle.cells.specs.promises.Letters.{Lettered}
+use Rattle.cells.specs.promises.Views.{answerRows, answerAt}
+use Rattle.outcome.specs.Answer.{CRLF, line, lines}
+use Rattle.answer.specs.promises.Parts.{numberField, letterField, lastField, idsPart, testPart, schedulePart}
+use Rattle.tables.specs.Rows.{AnswerRow}
+use Rattle.csv.specs.Bytes.{COMMA}
 
 regroup :
     (a b c d e f g : List ℕ) → ((a ++ b) ++ (c ++ d)) ++ ((e ++ f) ++ g) ≡ a ++ (b ++ (c ++ (d ++ (e ++ (f ++ g)))))
@@ -73,38 +73,6 @@ pub line-parts-length : (r : AnswerRow) → length (line r) ≡ length (idsPart 
 line-parts-length r =
     ap length (line-parts r) ∙ length-append (idsPart r ++ testPart r) (schedulePart r)
     ∙ rw (length-append (idsPart r) (testPart r))
-
-pub line-length :
-    (r : AnswerRow) →
-    length (line r)
-    ≡ length (digits (r .unit)) + length (digits (r .supplier)) + length (digits (r .left)) + length (digits (r .schedule))
-    + length (digits (r .cost)) + fixedBytes
-line-length r =
-    omega (
-      arith,
-      line-parts-length r,
-      ids-length r,
-      test-length r,
-      schedule-length r,
-      number-length (r .unit),
-      number-length (r .supplier),
-      letter-length (r .verdict),
-      number-length (r .left),
-      number-length (r .schedule),
-      letter-length (r .kind),
-      last-length (r .cost),
-    )
-
-pub header-length : length answerHeader ≡ headerBytes
-unfolding answerHeader
-header-length = refl
-
-pub text-parts : (rs : List AnswerRow) → length (answerText rs) ≡ length answerHeader + length (lines rs)
-unfolding answerText
-text-parts rs = length-append answerHeader (lines rs)
-
-pub text-length : (rs : List AnswerRow) → length (answerText rs) ≡ headerBytes + length (lines rs)
-text-length rs = text-parts rs ∙ rw header-length
 
 -- rows, one after the other
 lines-append : (rs qs : List AnswerRow) → lines (rs ++ qs) ≡ lines rs ++ lines qs

@@ -4,21 +4,17 @@ use mathlib.Core.Path.{_≡_, refl, sym}
 use mathlib.Core.List.{List, _++_}
 use native.Mathlib.Omega.{arith}
 use lib.ListN.{length, take, drop, length-append}
-use Rattle.base.specs.Writing.{Wrote}
-use Rattle.cells.specs.Views.{answerRows, answerAt}
-use Rattle.judge.specs.Answer.{lines, line, answerText}
-use Rattle.answer.specs.Lengths.{LineLength, mostLine}
-use Rattle.answer.specs.Longest.{headerBytes}
-use Rattle.answer.proofs.LineLaws.{
-  text-length,
-  linesBefore,
-  lines-next,
-  lines-all,
-  lines-room,
-  rest-length,
-  rest-none,
-}
+use Rattle.base.specs.promises.Writing.{Wrote}
+use Rattle.cells.specs.promises.Views.{answerRows, answerAt}
+use Rattle.outcome.specs.Answer.{lines, line, answerText}
+use Rattle.outcome.proofs.TextLengths.{text-length}
+use Rattle.answer.specs.promises.Lengths.{LineLength, mostLine}
+use Rattle.answer.proofs.LineLaws.{linesBefore, lines-next, lines-all, lines-room, rest-length, rest-none}
 use Rattle.answer.proofs.WriteLaws.{wrote-none, wrote-next, wrote-length}
+
+-- the header record
+abbrev headerBytes : ℕ
+headerBytes = 47
 
 module _ (n : ℕ) (cs : List ℕ) where
   -- the bytes counted and those of the rows to come are all

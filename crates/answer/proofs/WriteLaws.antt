@@ -7,12 +7,12 @@ use native.Mathlib.Numerals.{add-one}
 use native.Mathlib.Omega.{arith}
 use lib.ListN.{length, take, drop, set, length-append, length-drop, length-set}
 use lib.Seq.{set-split, drop-drop}
-use Rattle.base.specs.Writing.{Wrote}
+use Rattle.base.specs.promises.Writing.{Wrote}
 use Rattle.base.proofs.Lists.{rest-lent, rest-back}
 use Rattle.base.proofs.Writers.{wrote-then}
 use Rattle.numeral.specs.Numeral.{digits}
-use Rattle.judge.specs.Answer.{COMMA}
-use Rattle.answer.specs.Parts.{numberField, letterField, lastField}
+use Rattle.answer.specs.promises.Parts.{numberField, letterField, lastField}
+use Rattle.csv.specs.Bytes.{COMMA}
 use Rattle.answer.proofs.LineLaws.{number-length, last-length}
 
 -- nothing is written

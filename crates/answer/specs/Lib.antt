@@ -1,4 +1,1 @@
-pub mod Lengths
-pub mod Longest
-pub mod Parts
-pub mod Rows
+pub mod promises

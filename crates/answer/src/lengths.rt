@@ -2,9 +2,9 @@
 ghost use mathlib.Core.Path.{_≡_};
 ghost use Prim.Native.Nat.{_+_, _*_, _≤_, _<_};
 ghost use lib.ListN.{getD, length as List·length};
-ghost use Rattle.cells.specs.Views.{answerRows, answerAt, answerWidth};
-ghost use Rattle.judge.specs.Answer.{answerText};
-ghost use Rattle.answer.specs.Lengths.{NumeralLength, LineLength};
+ghost use Rattle.cells.specs.promises.Views.{answerRows, answerAt, answerWidth};
+ghost use Rattle.outcome.specs.Answer.{answerText};
+ghost use Rattle.answer.specs.promises.Lengths.{NumeralLength, LineLength};
 use cells::answer;
 
 // The header record.

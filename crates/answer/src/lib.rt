@@ -6,8 +6,5 @@ mod writing;
 pub use lengths::length;
 pub use writing::write;
 
-// The longest answer: the header, and 64 rows of which every field is as wide as its range permits.
-pub const LONGEST: usize = 2799;
-
 // The cells of the rows of 64 units.
 pub const CELLS: usize = 448;

@@ -3,11 +3,11 @@
 ghost use Prim.Native.Nat.{_+_, _*_, _≤_, _<_};
 ghost use lib.ListN.{length, getD};
 ghost use Rattle.base.specs.Search.{All};
-ghost use Rattle.base.specs.Writing.{Wrote};
-ghost use Rattle.cells.specs.Views.{answerRows, answerAt, answerWidth};
-ghost use Rattle.judge.specs.Answer.{answerHeader, answerText, line, lines};
-ghost use Rattle.answer.specs.Rows.{Lettered};
-ghost use Rattle.answer.specs.Parts.{numberField, letterField, lastField, idsPart, testPart, schedulePart};
+ghost use Rattle.base.specs.promises.Writing.{Wrote};
+ghost use Rattle.cells.specs.promises.Letters.{Lettered};
+ghost use Rattle.cells.specs.promises.Views.{answerRows, answerAt, answerWidth};
+ghost use Rattle.outcome.specs.Answer.{answerHeader, answerText, line, lines};
+ghost use Rattle.answer.specs.promises.Parts.{numberField, letterField, lastField, idsPart, testPart, schedulePart};
 use cells::answer;
 
 const COMMA: u8 = b',';

@@ -1,3 +1,4 @@
+pub mod Computing
 pub mod Elements
 pub mod Finds
 pub mod FirstLaws

@@ -9,7 +9,8 @@ use native.Mathlib.Omega.{arith}
 use lib.Dec.{eqb, eqb·zero-suc, eqb·suc-suc}
 use lib.ListN.{length, drop}
 use borrow.Author.Tests.{eq-eqb, ne-eqb}
-use Rattle.base.specs.Search.{one, first, leading, firstOf, All, all-none, all-more}
+use Rattle.base.specs.Search.{first, firstOf, All, all-none, all-more}
+use Rattle.base.specs.promises.Counting.{one, leading}
 use Rattle.base.proofs.Tests.{either, eq-or-ne}
 
 module _ {A : Type 0} (p : A → Bool) where

@@ -6,7 +6,7 @@ use mathlib.Core.List.{List, _++_, append-assoc}
 use native.Mathlib.Omega.{arith}
 use lib.ListN.{length, take, drop, length-append}
 use lib.Seq.{drop-drop, take-append-seam, drop-append-seam, drop-append-add, take-at}
-use Rattle.base.specs.Writing.{Wrote}
+use Rattle.base.specs.promises.Writing.{Wrote}
 
 joined :
     (a b old : List ℕ) →

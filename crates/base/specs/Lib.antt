@@ -1,4 +1,4 @@
 pub mod Rising
 pub mod Search
 pub mod Text
-pub mod Writing
+pub mod promises

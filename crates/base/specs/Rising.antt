@@ -20,7 +20,3 @@ among x (y ∷ ys) = eqb x y || among x ys
 pub data RisingFrom : ℕ → List ℕ → Type 0 where
   end : {b : ℕ} → RisingFrom b []
   next : {b x : ℕ} {xs : List ℕ} → b < x → RisingFrom x xs → RisingFrom b (x ∷ xs)
-
-unfoldable pub rising·all : Unit {0}
-unfolding inserted among
-rising·all = tt

@@ -4,10 +4,6 @@ use mathlib.Core.Bool.{Bool, false, cond, _||_}
 use mathlib.Core.List.{List, [], _∷_}
 use mathlib.Core.Option.{Option, none, some}
 
--- a test as a number to add
-abbrev pub one : Bool → ℕ
-one t = cond t 1 0
-
 module _ {A : Type 0} (p : A → Bool) where
   -- the number of the first element that passes the test, where the list's first has the number k
   unfoldable pub first : ℕ → List A → Option ℕ
@@ -15,13 +11,6 @@ module _ {A : Type 0} (p : A → Bool) where
   first k (x ∷ xs) =
       let more = first (suc k) xs in
       cond (p x) (some k) more
-
-  -- how many elements pass the test before the first that doesn't
-  unfoldable pub leading : List A → ℕ
-  leading [] = 0
-  leading (x ∷ xs) =
-      let more = suc (leading xs) in
-      cond (p x) more 0
 
   -- whether some element passes the test
   unfoldable pub any : List A → Bool
@@ -55,11 +44,6 @@ unfoldable pub firstOf : {A : Type 0} → List (Option A) → Option A
 firstOf [] = none
 firstOf (none ∷ os) = firstOf os
 firstOf (some x ∷ os) = some x
-
--- opens all of the above, for examples that compute
-unfoldable pub search·all : Unit {0}
-unfolding first leading any find those firstAtOdds firstOf
-search·all = tt
 
 -- every element has a property
 pub data All {A : Type 0} (P : A → Type 0) : List A → Type 0 where

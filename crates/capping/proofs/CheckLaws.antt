@@ -1,6 +1,6 @@
--- The number of the first refusal, from what filing answered. Assumes nothing.
+-- The number of the first refusal, from what the checks answered. Assumes nothing.
 use Prim.Native.Nat.{ℕ}
-use mathlib.Core.Path.{_≡_, sym, _∙_}
+use mathlib.Core.Path.{_≡_, sym, _∙_, ap}
 use mathlib.Core.List.{List, [], _∷_}
 use mathlib.Core.Option.{Option, none}
 use lib.ListN.{take}
@@ -10,34 +10,39 @@ use Rattle.tables.specs.declared.files.File.the-variants.{Parents}
 use Rattle.tables.specs.declared.files.Reading.{Reading}
 use Rattle.tables.specs.declared.files.Reading.the-variants.{Rows, Refused as NotRead}
 use Rattle.tables.specs.declared.files.Refusal.{Refusal}
-use Rattle.filing.specs.Alone.{SchedulesFiled}
-use Rattle.filing.specs.Filed.{MarketFiled}
-use Rattle.filing.specs.Filing.{files, aloneRefusals, schedulesRefusals, besideRefusals, filingRefusal, numberOf, checkNumber}
-use Rattle.filing.specs.declared.market.Market.{Market}
-use Rattle.filing.specs.declared.market.MarketFiling.{MarketFiling}
-use Rattle.filing.specs.declared.market.MarketFiling.the-variants.{Filed, Refused}
-use Rattle.filing.proofs.FiledLaws.{market-refused, schedules-first}
-use Rattle.filing.proofs.ParentsLaws.{none-refused}
-use Rattle.filing.proofs.RuleLaws.{rows-answered, refused-answered}
+use Rattle.tables.specs.Refusals.{told}
+use Rattle.checking.specs.promises.Alone.{SchedulesChecked}
+use Rattle.checking.specs.promises.Market.{MarketChecked}
+use Rattle.checking.specs.Files.{files, aloneRefusals, schedulesRefusals, besideRefusals, checkRefusal, checkNumber}
+use Rattle.checking.specs.declared.market.Market.{Market}
+use Rattle.checking.specs.declared.market.MarketCheck.{MarketCheck}
+use Rattle.checking.specs.declared.market.MarketCheck.the-variants.{Passed, Refused}
+use Rattle.checking.proofs.MarketLaws.{market-refused, schedules-first}
+use Rattle.checking.proofs.ParentsLaws.{none-refused}
+use Rattle.checking.proofs.RuleLaws.{rows-answered, refused-answered}
+
+-- the number that is told
+abbrev number-told : Option Refusal → ℕ
+number-told o = told o .number
 
 -- schedules
-module _ (refusals : List (Option Refusal)) (h cells links : List ℕ) {r : Reading} (filed : SchedulesFiled refusals h cells links r) where
-  pub schedules-number : {x : Refusal} → r ≡ NotRead x → x .number ≡ numberOf (firstOf refusals)
-  schedules-number e = rw (refused-answered (firstOf refusals) _ (sym (filed .answers) ∙ e))
+module _ (refusals : List (Option Refusal)) (h cells links : List ℕ) {r : Reading} (checked : SchedulesChecked refusals h cells links r) where
+  pub schedules-number : {x : Refusal} → r ≡ NotRead x → x .number ≡ told (firstOf refusals) .number
+  schedules-number e = rw (refused-answered (firstOf refusals) _ (sym (checked .answers) ∙ e))
 
-  pub schedules-zero : {n : ℕ} → r ≡ Rows n → 0 ≡ numberOf (firstOf refusals)
-  schedules-zero e = rw (rows-answered (firstOf refusals) _ (sym (filed .answers) ∙ e) .0)
+  pub schedules-zero : {n : ℕ} → r ≡ Rows n → 0 ≡ told (firstOf refusals) .number
+  schedules-zero e = rw (rows-answered (firstOf refusals) _ (sym (checked .answers) ∙ e) .0)
 
 -- all three, with no parents
-module _ (c s supply us : List ℕ) {q : MarketFiling} (market : MarketFiled c s supply us q) where
+module _ (c s supply us : List ℕ) {q : MarketCheck} (market : MarketChecked c s supply us q) where
   pub market-number : (h : List ℕ) {x : Refusal} → q ≡ Refused x → x .number ≡ checkNumber (files c s h [])
   unfolding checkNumber
-  market-number h e = rw (market-refused c s supply us market h [] e)
+  market-number h e = ap number-told (sym (market-refused c s supply us market h [] e))
 
-  module _ (m : Market) (e : q ≡ Filed m) (h : List ℕ) where
+  module _ (m : Market) (e : q ≡ Passed m) (h : List ℕ) where
     -- nothing waits
     no-parents :
-        filingRefusal (files c s h []) ≡ firstOf (besideRefusals (none ∷ []) (m .constraint .hour) (take (m .units) us) h)
+        checkRefusal (files c s h []) ≡ firstOf (besideRefusals (none ∷ []) (m .constraint .hour) (take (m .units) us) h)
     unfolding besideRefusals
     no-parents =
         schedules-first c s supply us market m e h []
@@ -45,7 +50,7 @@ module _ (c s supply us : List ℕ) {q : MarketFiling} (market : MarketFiled c s
         ∙ rw none-refused
 
     pub files-number :
-        {a : ℕ} → a ≡ numberOf (firstOf (besideRefusals (none ∷ []) (m .constraint .hour) (take (m .units) us) h)) →
+        {a : ℕ} → a ≡ told (firstOf (besideRefusals (none ∷ []) (m .constraint .hour) (take (m .units) us) h)) .number →
         a ≡ checkNumber (files c s h [])
     unfolding checkNumber
-    files-number told = told ∙ rw no-parents
+    files-number is = is ∙ ap number-told (sym no-parents)

@@ -10,7 +10,7 @@ use lib.Seq.{drop-drop, getD-drop}
 use Rattle.tables.specs.Rows.{kindOf, letterOf}
 use Rattle.tables.specs.declared.files.Kind.{Kind}
 use Rattle.tables.specs.declared.files.Kind.the-variants.{M, C}
-use Rattle.judge.specs.Day.{RunningUnit, DayView, mostRunning, freshDay}
+use Rattle.outcome.specs.Day.{RunningUnit, DayView, mostRunning, freshDay}
 use Rattle.engine.specs.View.{viewOf}
 use Rattle.engine.specs.declared.day.Day.{Day}
 use Rattle.capping.specs.Days.{firstPlace, placeWidth, hourIn, unitIn, unitsFrom, dayIn, hourCells, placeCells, dayCells}

@@ -13,7 +13,7 @@ use Rattle.base.proofs.Tests.{lt-or-ge}
 use Rattle.tables.specs.Rows.{kindOf}
 use Rattle.tables.specs.Table.{M as letterM, C as letterC}
 use Rattle.tables.specs.declared.files.Kind.the-variants.{M, C}
-use Rattle.judge.specs.Day.{mostRunning}
+use Rattle.outcome.specs.Day.{mostRunning}
 use Rattle.running.specs.View.{unitOf, missing, firstUnits}
 use Rattle.running.specs.declared.units.Running.{Running}
 use Rattle.running.proofs.ViewLaws.{unused}

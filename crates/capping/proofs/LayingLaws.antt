@@ -10,13 +10,13 @@ use lib.Dec.{ltb}
 use lib.ListN.{length, getD, take, drop, set, length-set, length-append}
 use lib.Seq.{sets-eq, length-sets, length-take-le, take-all, take-at, take-add}
 use borrow.Author.Tests.{ltb-true, ltb-false}
-use Rattle.judge.specs.Day.{RunningUnit, DayView, mostRunning}
+use Rattle.outcome.specs.Day.{RunningUnit, DayView, mostRunning}
 use Rattle.running.specs.View.{unitOf, missing, firstUnits, unitsOf}
 use Rattle.running.specs.declared.units.Units.{Units}
 use Rattle.running.proofs.ViewLaws.{unused, first-length, counted, first-at}
 use Rattle.engine.specs.View.{hourOf, viewOf}
 use Rattle.engine.specs.declared.day.Day.{Day}
-use Rattle.capping.specs.DayPromises.{cellsOfPlace, placed}
+use Rattle.capping.specs.promises.Places.{cellsOfPlace, placed}
 use Rattle.capping.specs.Days.{firstPlace, placeWidth, dayLength, hourCells, unitCells, placeCells, dayCells}
 use Rattle.capping.specs.declared.days.Place.{Place}
 

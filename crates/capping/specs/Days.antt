@@ -8,7 +8,7 @@ use lib.Dec.{eqb}
 use lib.ListN.{length, getD}
 use Rattle.tables.specs.Rows.{kindOf, letterOf}
 use Rattle.tables.specs.Table.{M, C}
-use Rattle.judge.specs.Day.{RunningUnit, DayView, mostRunning}
+use Rattle.outcome.specs.Day.{RunningUnit, DayView, mostRunning}
 use Rattle.running.specs.View.{missing}
 
 -- whether there is an hour, the hour and the count; behind them unit, kind and schedule of each place

@@ -1,4 +1,3 @@
-pub mod CallPromises
-pub mod DayPromises
 pub mod Days
 pub mod Exports
+pub mod promises

@@ -1,9 +1,11 @@
-// What a call answers, as host programs are told it: a report of three cells, and what is kept of a
-// day in its cells. Assumes nothing.
+// What a call answers, as host programs are told it: number, file and place in a report of three cells,
+// and what is kept of a day in its cells. Assumes nothing.
 ghost use mathlib.Core.Path.{_≡_};
+ghost use Rattle.engine.specs.Releasing.{releaseTold};
+ghost use Rattle.engine.specs.Studying.{studyTold, studyCount};
 ghost use Rattle.engine.specs.View.{viewOf};
-ghost use Rattle.capping.specs.Days.{dayCells};
-ghost use Rattle.capping.specs.CallPromises.{studyCall, releaseCall, answerCount, reportCells, heldCells};
+ghost use Rattle.tables.specs.Refusals.{bareRefusal};
+ghost use Rattle.capping.specs.Exports.{reported, cellsAfter};
 use crate::days::CELLS;
 use crate::days::lay_down;
 use engine::Day;
@@ -11,32 +13,40 @@ use engine::Release;
 use engine::Study;
 use tables::Refusal;
 
-pub(crate) enum Call {
-    Accepted,
-    Refused(Refusal),
-}
-
-pub(crate) fn of_study(study: Study) -> Call
-    ensures { λ r. ⌜ r ≡ studyCall study ⌝ }
+// Number, file and place of what a study answered.
+pub(crate) fn told_by_study(study: Study) -> Refusal
+    ensures { λ r. ⌜ r ≡ studyTold study ⌝ }
 {
     match study {
-        Study::Written(_) => Call::Accepted,
-        Study::Refused(refusal) => Call::Refused(refusal),
+        Study::Written(_) => nothing(),
+        Study::Refused(refusal) => refusal,
     }
 }
 
-pub(crate) fn of_release(release: Release) -> Call
-    ensures { λ r. ⌜ r ≡ releaseCall release ⌝ }
+// Number, file and place of what a release answered.
+pub(crate) fn told_by_release(release: Release) -> Refusal
+    ensures { λ r. ⌜ r ≡ releaseTold release ⌝ }
 {
     match release {
-        Release::Done => Call::Accepted,
-        Release::Refused(refusal) => Call::Refused(refusal),
+        Release::Done => nothing(),
+        Release::Refused(refusal) => refusal,
+    }
+}
+
+// Three zeros, where nothing is refused.
+fn nothing() -> Refusal
+    ensures { λ r. ⌜ r ≡ bareRefusal 0 ⌝ }
+{
+    Refusal {
+        number: 0,
+        file: 0,
+        place: 0,
     }
 }
 
 // How many bytes a study wrote, none where it is refused.
 pub(crate) fn count_of(study: Study) -> u64
-    ensures { λ r. ⌜ r ≡ answerCount study ⌝ }
+    ensures { λ r. ⌜ r ≡ studyCount study ⌝ }
 {
     match study {
         Study::Written(count) => count as u64,
@@ -44,22 +54,18 @@ pub(crate) fn count_of(study: Study) -> u64
     }
 }
 
-// Stores number, file and place, or zeros.
-pub(crate) fn tell(call: Call, report: &mut [u64; 3])
-    ensures { λ _. ⌜ now (report .exit) ≡ reportCells call ⌝ }
+// Stores number, file and place.
+pub(crate) fn report_on(told: Refusal, report: &mut [u64; 3])
+    ensures { λ _. ⌜ now (report .exit) ≡ reported told ⌝ }
 {
-    match call {
-        Call::Accepted => *report = [0, 0, 0],
-        Call::Refused(refusal) => *report = [refusal.number, refusal.file, refusal.place],
-    }
+    *report = [told.number, told.file, told.place];
 }
 
 // Lays down the day after an accepted call; a refused one leaves every cell as it was.
-pub(crate) fn keep(call: Call, after: Day, cells: &mut [u64; CELLS])
-    ensures { λ _. ⌜ now (cells .exit) ≡ heldCells call (dayCells (viewOf after)) (now (cells .entry)) ⌝ }
+pub(crate) fn keep(told: Refusal, after: Day, cells: &mut [u64; CELLS])
+    ensures { λ _. ⌜ now (cells .exit) ≡ cellsAfter (now (cells .entry)) (viewOf after) told ⌝ }
 {
-    match call {
-        Call::Accepted => lay_down(after, cells),
-        Call::Refused(_) => {}
+    if told.number == 0 {
+        lay_down(after, cells);
     }
 }

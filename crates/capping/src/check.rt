@@ -5,15 +5,16 @@ ghost use mathlib.Core.List.{[], _∷_};
 ghost use mathlib.Core.Option.{none};
 ghost use lib.ListN.{take};
 ghost use Rattle.base.specs.Search.{firstOf};
-ghost use Rattle.filing.specs.Filed.{MarketFits};
-ghost use Rattle.filing.specs.Filing.{files, besideRefusals, numberOf, checkNumber};
-use filing::Market;
-use filing::MarketFiling;
-use filing::SCHEDULE_CELLS;
-use filing::SUPPLY_CELLS;
-use filing::UNITS;
-use filing::file_market;
-use filing::file_schedules;
+ghost use Rattle.checking.specs.promises.Market.{MarketFits};
+ghost use Rattle.checking.specs.Files.{files, besideRefusals, checkNumber};
+ghost use Rattle.tables.specs.Refusals.{told};
+use checking::Market;
+use checking::MarketCheck;
+use checking::SCHEDULE_CELLS;
+use checking::SUPPLY_CELLS;
+use checking::UNITS_LENGTH;
+use checking::check_market;
+use checking::check_schedules;
 use tables::Reading;
 
 #[no_mangle]
@@ -21,23 +22,23 @@ pub extern "C" fn capping_check(constraint: &[u8], supply: &[u8], schedules: &[u
     ensures { λ r. ⌜ r ≡ checkNumber (files (now (constraint .entry)) (now (supply .entry)) (now (schedules .entry)) []) ⌝ }
 {
     let mut cells = [0u64; SUPPLY_CELLS];
-    let mut units = [0u64; UNITS];
-    let filing = file_market(constraint, supply, &mut cells, &mut units);
-    match filing {
-        MarketFiling::Refused(refusal) => refusal.number,
-        MarketFiling::Filed(market) => check_schedules(market, schedules, &units),
+    let mut units = [0u64; UNITS_LENGTH];
+    let check = check_market(constraint, supply, &mut cells, &mut units);
+    match check {
+        MarketCheck::Refused(refusal) => refusal.number,
+        MarketCheck::Passed(market) => schedules_number(market, schedules, &units),
     }
 }
 
 // The check of schedules beside a market, whose units are listed.
-fn check_schedules(market: Market, schedules: &[u8], units: &[u64]) -> u64
+fn schedules_number(market: Market, schedules: &[u8], units: &[u64]) -> u64
     requires { ⌜ MarketFits market (now units) ⌝ }
-    ensures { λ r. ⌜ r ≡ numberOf (firstOf (besideRefusals (none ∷ []) (market .constraint .hour) (take (market .units) (now (units .entry))) (now (schedules .entry)))) ⌝ }
+    ensures { λ r. ⌜ r ≡ told (firstOf (besideRefusals (none ∷ []) (market .constraint .hour) (take (market .units) (now (units .entry))) (now (schedules .entry)))) .number ⌝ }
 {
     let mut cells = [0u64; SCHEDULE_CELLS];
     let mut links = [0u16; links::LENGTH];
     let no_parents = Reading::Rows(0);
-    let reading = file_schedules(market, no_parents, schedules, units, &mut cells, &mut links);
+    let reading = check_schedules(market, no_parents, schedules, units, &mut cells, &mut links);
     match reading {
         Reading::Refused(refusal) => refusal.number,
         Reading::Rows(_) => 0,

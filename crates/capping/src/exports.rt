@@ -1,16 +1,19 @@
 // The study and the test for host programs. Assumes nothing: of the files, the buffer, the report,
 // the amounts, the place and the need.
 ghost use mathlib.Core.Path.{_≡_};
-ghost use Rattle.filing.specs.Filing.{files};
-ghost use Rattle.judge.specs.Day.{freshDay};
-ghost use Rattle.pivotal.specs.Test.{tested};
-ghost use Rattle.capping.specs.Exports.{StudyTold, ToldRight, verdictNumber, testNumber, testLeft};
+ghost use lib.Dec.{eqb};
+ghost use Rattle.checking.specs.Files.{files};
+ghost use Rattle.outcome.specs.Day.{freshDay};
+ghost use Rattle.outcome.specs.Study.{studied};
+ghost use Rattle.pivotal.specs.Test.{F, finding, verdictLetter, tested};
+ghost use Rattle.capping.specs.Exports.{StudyTold, ToldRight, testNumber, testLeft};
+ghost use Rattle.base.specs.promises.Counting.{one};
 use crate::calls::count_of;
-use crate::calls::of_study;
-use crate::calls::tell;
+use crate::calls::report_on;
+use crate::calls::told_by_study;
 use engine::Day;
 use pivotal::Answer;
-use pivotal::Verdict;
+use pivotal::Finding;
 
 // What the test answers by numbers.
 const PASSED: u64 = 0;
@@ -19,8 +22,8 @@ const FAILED: u64 = 1;
 
 const TEST_REFUSED: u64 = 11;
 
-// Studies a fresh day; parents of no bytes are none. Answers how many bytes were written, 0 where it is refused; the report is number, file
-// and place, all 0 where it is accepted.
+// Studies a fresh day; parents of no bytes are none. Answers how many bytes were written, 0 where it is
+// refused; the report is number, file and place, all 0 where it is accepted.
 #[no_mangle]
 pub extern "C" fn capping_study(
     constraint: &[u8],
@@ -30,13 +33,13 @@ pub extern "C" fn capping_study(
     answer: &mut [u8],
     report: &mut [u64; 3],
 ) -> u64
-    ensures { λ r. ⌜ StudyTold freshDay (files (now (constraint .entry)) (now (supply .entry)) (now (schedules .entry)) (now (parents .entry))) (now (answer .entry)) (now (answer .exit)) (now (report .exit)) r ⌝ }
+    ensures { λ r. ⌜ StudyTold (studied freshDay (files (now (constraint .entry)) (now (supply .entry)) (now (schedules .entry)) (now (parents .entry))) (now (answer .entry))) (now (answer .exit)) (now (report .exit)) r ⌝ }
     ensures { λ r. ⌜ ToldRight freshDay (files (now (constraint .entry)) (now (supply .entry)) (now (schedules .entry)) (now (parents .entry))) (now (answer .exit)) r ⌝ }
 {
     let day = Day::fresh();
     let studied = day.study(constraint, supply, schedules, parents, answer);
     let study = studied.answer;
-    tell(of_study(study), report);
+    report_on(told_by_study(study), report);
     count_of(study)
 }
 
@@ -48,19 +51,19 @@ pub extern "C" fn capping_test(amounts: &[u64], place: u64, need: u64, left: &mu
 {
     let answer = pivotal::test(amounts, place as usize, need);
     match answer {
-        Answer::Tested(remains, verdict) => {
+        Answer::Tested(remains, found) => {
             *left = remains;
-            verdict_number(verdict)
+            number_of(found)
         }
         Answer::Refused => TEST_REFUSED,
     }
 }
 
-fn verdict_number(verdict: Verdict) -> u64
-    ensures { λ r. ⌜ r ≡ verdictNumber verdict ⌝ }
+fn number_of(found: Finding) -> u64
+    ensures { λ r. ⌜ r ≡ one (eqb (verdictLetter (finding found)) (verdictLetter F)) ⌝ }
 {
-    match verdict {
-        Verdict::P => PASSED,
-        Verdict::F => FAILED,
+    match found {
+        Finding::Passes => PASSED,
+        Finding::Fails => FAILED,
     }
 }

@@ -7,8 +7,9 @@ use native.Mathlib.Nat.{suc-mul, zero-mul, le-of-suc-le-suc, not-suc-le-zero}
 use native.Mathlib.Numerals.{add-one}
 use lib.ListN.{length, getD, take, drop, length-map}
 use lib.Seq.{drop-drop, getD-drop, getD-take}
-use Rattle.tables.specs.Rows.{supplyRow, scheduleRow, parentRow, rowsOf, supplyRows, scheduleRows, parentRows}
-use Rattle.cells.specs.Views.{supplyAt, scheduleAt, parentAt, answerAt, answerRow, answerRows}
+use Rattle.tables.specs.Rows.{supplyRow, scheduleRow, parentRow}
+use Rattle.tables.specs.promises.FlatRows.{rowsOf, supplyRows, scheduleRows, parentRows}
+use Rattle.cells.specs.promises.Views.{supplyAt, scheduleAt, parentAt, answerAt, answerRow, answerRows}
 
 pub rows-length : (w n : ℕ) (cs : List ℕ) → length (rowsOf w n cs) ≡ n
 unfolding rowsOf

@@ -9,13 +9,14 @@ use native.Mathlib.Omega.{arith}
 use Rattle.base.proofs.Tests.{eq-or-ne}
 use Rattle.tables.specs.Rows.{ScheduleRow}
 use Rattle.tables.specs.declared.files.Kind.{Kind}
-use Rattle.choice.specs.declared.choosing.Choice.{Choice}
-use Rattle.choice.specs.declared.choosing.Chosen.{Chosen}
-use Rattle.choice.specs.declared.choosing.Chosen.the-variants.{Schedule}
+use Rattle.choice.specs.declared.choices.Choice.{Choice}
+use Rattle.choice.specs.declared.choices.Chosen.{Chosen}
+use Rattle.choice.specs.declared.choices.Chosen.the-variants.{Schedule}
 use Rattle.choice.specs.Cost.{cost}
-use Rattle.choice.specs.Schedules.{schedules, running, eligible}
+use Rattle.choice.specs.Schedules.{schedules, isRunning, eligibleSchedule}
 use Rattle.choice.specs.Choosing.{shown, candidates, choice}
-use Rattle.choice.specs.Right.{Eligible, RightChoice, OneRowEach}
+use Rattle.choice.specs.Right.{Eligible, RightChoice}
+use Rattle.choice.specs.promises.OneRow.{OneRowEach}
 use Rattle.base.proofs.Elements.{mem-those, those-mem, mem-map, map-mem}
 use Rattle.choice.proofs.LeastLaws.{NoWorse, Least, no-candidate, least-one, least-kept}
 
@@ -24,7 +25,7 @@ module _ (day : Option Kind) (exposed : Bool) (h : ℕ) (rows : List ScheduleRow
   candidate : (row : ScheduleRow) → Eligible day exposed h rows row → Among (shown day h rows row) (candidates day exposed h rows)
   unfolding candidates
   candidate row e =
-      mem-map (shown day h rows) (mem-those (eligible day exposed (schedules h rows)) (e .of-the-unit) (e .passes))
+      mem-map (shown day h rows) (mem-those (eligibleSchedule day exposed (schedules h rows)) (e .of-the-unit) (e .passes))
 
   of-a-row :
       (c : Choice) → Among c (candidates day exposed h rows) →
@@ -32,7 +33,7 @@ module _ (day : Option Kind) (exposed : Bool) (h : ℕ) (rows : List ScheduleRow
   unfolding candidates
   of-a-row c m =
       let (row, n, e) = map-mem (shown day h rows) _ m in
-      let (k, t) = those-mem (eligible day exposed (schedules h rows)) (schedules h rows) n in
+      let (k, t) = those-mem (eligibleSchedule day exposed (schedules h rows)) (schedules h rows) n in
       (row, record { of-the-unit = k; passes = t }, e)
 
   chosen : Least (candidates day exposed h rows) (choice day exposed h rows)
@@ -62,7 +63,7 @@ module _ (day : Option Kind) (exposed : Bool) (h : ℕ) (rows : List ScheduleRow
   only distinct {c} {d} r m n =
       let (row, el, s) = of-a-row d m in
       let number : d .schedule ≡ row .schedule = ap (λ (x : Choice). x .schedule) s in
-      let costs : cost (running day) h rows row ≡ c .cost = omega (arith, n .costs, r .least row el, ap (λ (x : Choice). x .cost) s) in
+      let costs : cost (isRunning day) h rows row ≡ c .cost = omega (arith, n .costs, r .least row el, ap (λ (x : Choice). x .cost) s) in
       let no-larger : d .schedule ≤ c .schedule = n .number (omega (arith, ap (λ (x : Choice). x .cost) s)) in
       ⊎-elim
       (λ e.

@@ -7,9 +7,9 @@ use mathlib.Core.List.{List, [], _∷_, List·Memᴰ as Among, List·Memᴰ·hea
 use native.Mathlib.Omega.{arith}
 use lib.Dec.{ltb, eqb}
 use borrow.Author.Tests.{ltb-true, ltb-false, eqb-true, eqb-false, lt-ltb, le-ltb, eq-eqb, ne-eqb}
-use Rattle.choice.specs.declared.choosing.Choice.{Choice}
-use Rattle.choice.specs.declared.choosing.Chosen.{Chosen}
-use Rattle.choice.specs.declared.choosing.Chosen.the-variants.{Schedule, Nothing}
+use Rattle.choice.specs.declared.choices.Choice.{Choice}
+use Rattle.choice.specs.declared.choices.Chosen.{Chosen}
+use Rattle.choice.specs.declared.choices.Chosen.the-variants.{Schedule, Nothing}
 use Rattle.choice.specs.Choosing.{better, kept, keptAll}
 
 -- a costs no more than b, and has no larger number where they cost the same

@@ -1,4 +1,6 @@
+pub mod ChoiceLaws
 pub mod ChoiceRight
-pub mod ExposedExactly
+pub mod CostLaws
 pub mod LeastLaws
 pub mod SomeEligible
+pub mod UnitLaws

@@ -12,7 +12,7 @@ use Rattle.tables.specs.declared.files.Kind.{Kind}
 use Rattle.tables.specs.declared.files.Kind.the-variants.{M, C}
 use Rattle.choice.specs.declared.kinds.Kinds.{Kinds}
 use Rattle.choice.specs.declared.kinds.Kinds.the-variants.{All, OnlyM, OnlyC}
-use Rattle.choice.specs.Schedules.{schedules, onCost, admits, ofKinds, hasAny, eligibleKinds, eligible}
+use Rattle.choice.specs.Schedules.{schedules, onCost, admits, ofKinds, hasAny, eligibleKinds, eligibleSchedule}
 use Rattle.choice.specs.Right.{Eligible}
 
 -- a schedule of these kinds
@@ -59,7 +59,7 @@ module _ (day : Option Kind) (exposed : Bool) (h : ℕ) (rows : List ScheduleRow
       (kinds : Kinds) → eligibleKinds day exposed (hasAny OnlyM (schedules h rows)) ≡ kinds → (row : ScheduleRow) →
       Among row (schedules h rows) → ofKinds kinds row ≡ true →
       (row : ScheduleRow) × Eligible day exposed h rows row
-  unfolding eligible
+  unfolding eligibleSchedule
   by-kinds kinds e row m f = (row, record { of-the-unit = m; passes = rw e f })
 
   -- some schedule is eligible, where the unit has one, and a C schedule if it runs on cost
@@ -84,7 +84,7 @@ module _ (day : Option Kind) (exposed : Bool) (h : ℕ) (rows : List ScheduleRow
   -- a unit that runs on cost has an eligible schedule exactly when it has a C schedule
   pub on-cost-exactly :
       onCost day ≡ true → ((row : ScheduleRow) × Eligible day exposed h rows row) ↔ (hasAny OnlyC (schedules h rows) ≡ true)
-  unfolding eligible eligibleKinds
+  unfolding eligibleSchedule eligibleKinds
   on-cost-exactly e = (
     λ x. any-of OnlyC (x .1 .of-the-unit) (simp e at (x .1 .passes)),
     λ has.

@@ -9,20 +9,16 @@ use lib.Dec.{ltb, eqb}
 use Rattle.base.specs.Search.{those}
 use Rattle.tables.specs.Rows.{ScheduleRow, kindOf}
 use Rattle.tables.specs.declared.files.Kind.{Kind}
-use Rattle.choice.specs.declared.choosing.Choice.{Choice}
-use Rattle.choice.specs.declared.choosing.Chosen.{Chosen}
-use Rattle.choice.specs.declared.choosing.Chosen.the-variants.{Schedule, Nothing}
+use Rattle.choice.specs.declared.choices.Choice.{Choice}
+use Rattle.choice.specs.declared.choices.Chosen.{Chosen}
+use Rattle.choice.specs.declared.choices.Chosen.the-variants.{Schedule, Nothing}
 use Rattle.choice.specs.Cost.{cost}
-use Rattle.choice.specs.Schedules.{schedules, running, eligible}
+use Rattle.choice.specs.Schedules.{schedules, isRunning, eligibleSchedule}
 
 -- a schedule as an answer shows it
 unfoldable pub shown : Option Kind → ℕ → List ScheduleRow → ScheduleRow → Choice
 shown day h rows schedule =
-    record {
-      schedule = schedule .schedule;
-      kind = kindOf (schedule .kind);
-      cost = cost (running day) h rows schedule;
-    }
+    record { schedule = schedule .schedule; kind = kindOf (schedule .kind); cost = cost (isRunning day) h rows schedule }
 
 -- whether a is to be taken rather than b
 unfoldable pub better : Choice → Choice → Bool
@@ -42,7 +38,7 @@ keptAll (c ∷ cs) = kept (keptAll cs) c
 unfoldable pub candidates : Option Kind → Bool → ℕ → List ScheduleRow → List Choice
 candidates day exposed h rows =
     let all = schedules h rows in
-    map (shown day h rows) (those (eligible day exposed all) all)
+    map (shown day h rows) (those (eligibleSchedule day exposed all) all)
 
 unfoldable pub choice : Option Kind → Bool → ℕ → List ScheduleRow → Chosen
 choice day exposed h rows = keptAll (candidates day exposed h rows)

@@ -3,3 +3,4 @@ pub mod Cost
 pub mod Exposure
 pub mod Right
 pub mod Schedules
+pub mod promises

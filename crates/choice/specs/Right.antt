@@ -8,27 +8,22 @@ use mathlib.Core.List.{List, List·Memᴰ as Among}
 use mathlib.Core.Option.{Option}
 use Rattle.tables.specs.Rows.{ScheduleRow}
 use Rattle.tables.specs.declared.files.Kind.{Kind}
-use Rattle.choice.specs.declared.choosing.Choice.{Choice}
+use Rattle.choice.specs.declared.choices.Choice.{Choice}
 use Rattle.choice.specs.Cost.{cost}
-use Rattle.choice.specs.Schedules.{schedules, running, eligible}
+use Rattle.choice.specs.Schedules.{schedules, isRunning, eligibleSchedule}
 use Rattle.choice.specs.Choosing.{shown}
 
 -- an eligible schedule of the unit
 pub record Eligible (day : Option Kind) (exposed : Bool) (h : ℕ) (rows : List ScheduleRow) (schedule : ScheduleRow) : Type 0 where
   pub of-the-unit : Among schedule (schedules h rows)
-  pub passes : eligible day exposed (schedules h rows) schedule ≡ true
+  pub passes : eligibleSchedule day exposed (schedules h rows) schedule ≡ true
 
 pub record RightChoice (day : Option Kind) (exposed : Bool) (h : ℕ) (rows : List ScheduleRow) (c : Choice) : Type 0 where
   pub row : ScheduleRow
   pub is-eligible : Eligible day exposed h rows row
   pub shows : c ≡ shown day h rows row
-  pub least : (other : ScheduleRow) → Eligible day exposed h rows other → c .cost ≤ cost (running day) h rows other
+  pub least : (other : ScheduleRow) → Eligible day exposed h rows other → c .cost ≤ cost (isRunning day) h rows other
   pub smallest :
-      (other : ScheduleRow) → Eligible day exposed h rows other → cost (running day) h rows other ≡ c .cost →
+      (other : ScheduleRow) → Eligible day exposed h rows other → cost (isRunning day) h rows other ≡ c .cost →
       other .schedule ≢ c .schedule →
       c .schedule < other .schedule
-
--- no two schedules share a number, which refusals 6 and 9 ensure
-pub record OneRowEach (h : ℕ) (rows : List ScheduleRow) : Type 0 where
-  pub same :
-      (a b : ScheduleRow) → Among a (schedules h rows) → Among b (schedules h rows) → a .schedule ≡ b .schedule → a ≡ b

@@ -1,7 +1,7 @@
 -- Document 01, "Choice of schedule": a unit's schedules and which of them are eligible. The day says on which kind the unit
 -- runs, or none where it doesn't run. Assumes nothing; that every schedule has a row for the study hour is refusal 9.
 use Prim.Native.Nat.{ℕ}
-use mathlib.Core.Bool.{Bool, true, false, cond, _&&_, _||_}
+use mathlib.Core.Bool.{Bool, true, false, cond, _||_}
 use mathlib.Core.List.{List, [], _∷_}
 use mathlib.Core.Option.{Option, none, some}
 use lib.Dec.{eqb}
@@ -9,8 +9,6 @@ use Rattle.base.specs.Search.{those}
 use Rattle.tables.specs.Rows.{ScheduleRow, kindOf}
 use Rattle.tables.specs.declared.files.Kind.{Kind}
 use Rattle.tables.specs.declared.files.Kind.the-variants.{M, C}
-use Rattle.choice.specs.declared.kinds.DayKind.{DayKind}
-use Rattle.choice.specs.declared.kinds.DayKind.the-variants.{NotRunning, OnM, OnC}
 use Rattle.choice.specs.declared.kinds.Kinds.{Kinds}
 use Rattle.choice.specs.declared.kinds.Kinds.the-variants.{All, OnlyM, OnlyC}
 
@@ -21,15 +19,9 @@ atHour h row = eqb (row .hour) h
 unfoldable pub schedules : ℕ → List ScheduleRow → List ScheduleRow
 schedules h rows = those (atHour h) rows
 
--- the kind on which the day has the unit running
-abbrev pub kindIn : DayKind → Option Kind
-kindIn NotRunning = none
-kindIn OnM = some M
-kindIn OnC = some C
-
-abbrev pub running : Option Kind → Bool
-running none = false
-running (some k) = true
+abbrev pub isRunning : Option Kind → Bool
+isRunning none = false
+isRunning (some k) = true
 
 abbrev pub onCost : Option Kind → Bool
 onCost none = false
@@ -46,10 +38,6 @@ admits OnlyC C = true
 unfoldable pub ofKinds : Kinds → ScheduleRow → Bool
 ofKinds kinds schedule = admits kinds (kindOf (schedule .kind))
 
--- whether a row is a schedule's, and the schedule of these kinds
-unfoldable pub offers : ℕ → Kinds → ScheduleRow → Bool
-offers h kinds row = atHour h row && ofKinds kinds row
-
 -- whether there is a schedule of these kinds
 unfoldable pub hasAny : Kinds → List ScheduleRow → Bool
 hasAny kinds [] = false
@@ -60,5 +48,5 @@ hasAny kinds (schedule ∷ more) = ofKinds kinds schedule || hasAny kinds more
 unfoldable pub eligibleKinds : Option Kind → Bool → Bool → Kinds
 eligibleKinds day exposed hasM = cond (onCost day) OnlyC (cond exposed All (cond hasM OnlyM OnlyC))
 
-unfoldable pub eligible : Option Kind → Bool → List ScheduleRow → ScheduleRow → Bool
-eligible day exposed all = ofKinds (eligibleKinds day exposed (hasAny OnlyM all))
+unfoldable pub eligibleSchedule : Option Kind → Bool → List ScheduleRow → ScheduleRow → Bool
+eligibleSchedule day exposed all = ofKinds (eligibleKinds day exposed (hasAny OnlyM all))

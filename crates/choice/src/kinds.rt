@@ -1,12 +1,7 @@
 // Schedules by their kind, and which kinds are eligible for a unit.
 ghost use mathlib.Core.Path.{_≡_};
-ghost use Rattle.choice.specs.Schedules.{
-  kindIn,
-  running as Schedules·running,
-  onCost,
-  admits as Schedules·admits,
-  eligibleKinds,
-};
+ghost use Rattle.choice.specs.Schedules.{isRunning as Schedules·running, onCost, admits as Schedules·admits, eligibleKinds};
+ghost use Rattle.choice.specs.promises.Kinds.{kindIn};
 use tables::Kind;
 
 // How the day has a unit: not running, or running on a schedule of a kind.

@@ -1,16 +1,16 @@
-// Which of a unit's schedules it runs on: what a schedule costs, which ones are eligible and which is
-// chosen, as definitions with the proof that the choice is what demand 3 asks; and the steps of it that
-// need no rows.
+// Which of a unit's schedules it runs on: what an hour and a run of a schedule cost, which schedules are
+// eligible, and which of them is chosen. The rows of a study are a lent run of cells, and those of the
+// unit, or of a schedule, are found along links, from the last to the first.
+mod choices;
 mod choosing;
+mod costs;
 mod kinds;
 mod prices;
+mod rows;
 
-pub use choosing::Choice;
-pub use choosing::Chosen;
-pub use choosing::kept;
+pub use choices::Choice;
+pub use choices::Chosen;
+pub use choosing::choose;
+pub use choosing::has_any;
 pub use kinds::DayKind;
 pub use kinds::Kinds;
-pub use kinds::admits;
-pub use kinds::eligible_kinds;
-pub use kinds::running;
-pub use prices::offer_price;

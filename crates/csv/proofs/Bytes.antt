@@ -6,8 +6,8 @@ use native.Mathlib.Omega.{arith}
 use lib.Dec.{leb}
 use borrow.Author.Tests.{le-leb, lt-leb}
 use Rattle.base.proofs.Tests.{lt-or-ge}
-use Rattle.csv.specs.Grammar.{COMMA, DQUOTE}
-use Rattle.csv.specs.Reading.{textdata}
+use Rattle.csv.specs.Records.{textdata}
+use Rattle.csv.specs.Bytes.{COMMA, DQUOTE}
 
 -- from the space on, TEXTDATA ends at 0x7E, but for its two gaps
 pub textdata-from-space :

@@ -5,8 +5,9 @@ use mathlib.Core.Path.{_≡_, refl, sym, _∙_, ap}
 use mathlib.Core.Bool.{Bool, true, false}
 use mathlib.Core.List.{List, [], _∷_}
 use Rattle.base.proofs.Tests.{false-true}
-use Rattle.csv.specs.Grammar.{COMMA, CR, DQUOTE, LF, NonEscaped, Opened, Escaped, Field, Record, File}
-use Rattle.csv.specs.Reading.{State, begin, plain, quoted, closing, ended, broken, Rest, next, grown, regular, rest, rfc4180, records}
+use Rattle.csv.specs.Grammar.{NonEscaped, Opened, Escaped, Field, Record, File}
+use Rattle.csv.specs.Records.{State, begin, plain, quoted, closing, ended, broken, Rest, next, grown, regular, rest, rfc4180, records}
+use Rattle.csv.specs.Bytes.{COMMA, CR, DQUOTE, LF}
 use Rattle.csv.proofs.Steps.{text-not, Kind, is-text, is-comma, is-cr, is-lf, is-dquote, is-other, kind, Leads, leads-on, Ends, ends-begin, ends-plain, ends-closing, kept-text, kept-comma, kept-cr, kept-lf, begin-text, plain-text, begin-dquote, quoted-dquote, closing-dquote, quoted-kept, ends-comma, ends-cr, ended-lf, broken-refuses, begin-refuses, plain-refuses, quoted-refuses, closing-refuses, ended-refuses}
 
 -- From the grammar to the reading: a form leads the reading from its first state to what follows it, and adds its value.

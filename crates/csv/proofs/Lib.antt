@@ -1,4 +1,5 @@
 pub mod Bytes
+pub mod Computing
 pub mod Decides
 pub mod Parts
 pub mod Scanned

@@ -8,16 +8,16 @@ use lib.Dec.{eqb}
 use lib.ListN.{length, getD, take, drop}
 use borrow.Author.Tests.{eq-eqb, ne-eqb}
 use Rattle.base.proofs.Lists.{drop-next, drop-end}
-use Rattle.csv.specs.Grammar.{COMMA, DQUOTE}
-use Rattle.csv.specs.Fields.{turned, separates, extent, unread, inner}
+use Rattle.csv.specs.promises.Fields.{turned, endsField, extent, unread, inner}
+use Rattle.csv.specs.Bytes.{COMMA, DQUOTE}
 
 module _ (inside : Bool) (s : List ℕ) (i : ℕ) where
-  pub extent-here : i < length s → separates inside (getD s i 0) ≡ true → extent inside (drop i s) ≡ 0
+  pub extent-here : i < length s → endsField inside (getD s i 0) ≡ true → extent inside (drop i s) ≡ 0
   unfolding extent
   extent-here h e = rw (drop-next 0 i s h, e)
 
   pub extent-later :
-      i < length s → separates inside (getD s i 0) ≡ false →
+      i < length s → endsField inside (getD s i 0) ≡ false →
       extent inside (drop i s) ≡ suc (extent (turned inside (getD s i 0)) (drop (i + 1) s))
   unfolding extent
   extent-later h e = rw (drop-next 0 i s h, e)

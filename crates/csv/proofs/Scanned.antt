@@ -8,11 +8,10 @@ use native.Mathlib.Omega.{arith}
 use lib.Dec.{eqb}
 use lib.ListN.{length, length-map}
 use borrow.Author.Tests.{eqb-true, ne-eqb}
-use Rattle.base.specs.Search.{one}
 use Rattle.base.proofs.Searches.{joined, joined-none, joined-more, one-le}
 use Rattle.base.proofs.Tests.{either, false-true}
-use Rattle.csv.specs.Grammar.{COMMA, DQUOTE, LF}
-use Rattle.csv.specs.Reading.{
+use Rattle.base.specs.promises.Counting.{one}
+use Rattle.csv.specs.Records.{
   State,
   begin,
   plain,
@@ -36,7 +35,8 @@ use Rattle.csv.specs.Reading.{
 }
 use Rattle.csv.proofs.Steps.{broken-refuses}
 use Rattle.csv.specs.declared.scanning.Shape.the-variants.{Regular}
-use Rattle.csv.specs.Scan.{Tally, start, over, within, separates, atEnd, step, tally, finished, answer, fitting, scanned}
+use Rattle.csv.specs.promises.Scan.{Tally, start, over, insideField, separates, atEnd, step, tally, finished, scanAnswer, fitting, scanned}
+use Rattle.csv.specs.Bytes.{COMMA, DQUOTE, LF}
 
 -- the field counts of the records from a tally on
 counts : ℕ → Rest → List ℕ
@@ -125,8 +125,8 @@ module _ (width : ℕ) where
   finds-none : (t : Tally) → Finds width t [] t
   finds-none t = record { records = omega arith; fitting = sym (joined-none (eqb width) (t .fitting) (t .records)) }
 
-  sound-within : (b : ℕ) (t : Tally) → Sound t → Sound (within b t)
-  unfolding within
+  sound-within : (b : ℕ) (t : Tally) → Sound t → Sound (insideField b t)
+  unfolding insideField
   sound-within b t h = record { begun = λ e. omega arith; less = h .less }
 
   sound-over : (t : Tally) → Sound t → Sound (over width begin t)
@@ -151,8 +151,8 @@ module _ (width : ℕ) where
 
   counts-within :
       (b : ℕ) (s : List ℕ) (t : Tally) (r : Rest) → atEnd (t .state) ≡ false →
-      counts (max (within b t .fields) 1) r ≡ counts (max (t .fields) 1) (grown (t .state) b s r)
-  unfolding counts within
+      counts (max (insideField b t .fields) 1) r ≡ counts (max (t .fields) 1) (grown (t .state) b s r)
+  unfolding counts insideField
   counts-within b s t r q =
       let a = adds b s r (t .state) q in
       let first :
@@ -162,14 +162,14 @@ module _ (width : ℕ) where
       in
       rw (first, a .records)
 
-  found-within : (b : ℕ) (s : List ℕ) (t : Tally) → atEnd (t .state) ≡ false → Found s (within b t) → Found (b ∷ s) t
+  found-within : (b : ℕ) (s : List ℕ) (t : Tally) → atEnd (t .state) ≡ false → Found s (insideField b t) → Found (b ∷ s) t
   unfolding Found tally step rest regular
   found-within b s t q ih h o e =
       let f =
-      ih (sound-within b t h) (λ _. unfold within in omega arith) (unfold within in e)
+      ih (sound-within b t h) (λ _. unfold insideField in omega arith) (unfold insideField in e)
       in
       rw (q, ← counts-within b s t (rest (next (t .state) b) s) q)
-      (record { records = unfold within in f .records; fitting = unfold within in f .fitting })
+      (record { records = unfold insideField in f .records; fitting = unfold insideField in f .fitting })
 
   counts-over :
       (s : List ℕ) (c : ℕ) (t : Tally) → 1 ≤ t .fields →
@@ -202,14 +202,14 @@ module _ (width : ℕ) where
   found : (s : List ℕ) (t : Tally) → Found s t
   found [] t = found-end t
   found (b ∷ s) t =
-      ⊎-elim (λ q. found-over b s t q (found s (over width begin t))) (λ q. found-within b s t q (found s (within b t)))
+      ⊎-elim (λ q. found-over b s t q (found s (over width begin t))) (λ q. found-within b s t q (found s (insideField b t)))
       (either (atEnd (t .state)))
 
   state-step : (b : ℕ) (t : Tally) → step width t b .state ≡ next (t .state) b
-  unfolding step over within
+  unfolding step over insideField
   state-step b t = go (atEnd (t .state))
     where
-      go : (x : Bool) → cond x (over width (next (t .state) b) t) (within b t) .state ≡ next (t .state) b
+      go : (x : Bool) → cond x (over width (next (t .state) b) t) (insideField b t) .state ≡ next (t .state) b
       go true = refl
       go false = refl
 
@@ -239,8 +239,8 @@ module _ (width : ℕ) where
       rw one-more f
 
   -- the tally's answer is what the definition says of the file
-  pub tally-scans : (s : List ℕ) → scanned width s ≡ answer (finished width (tally width start s))
-  unfolding scanned rfc4180 answer
+  pub tally-scans : (s : List ℕ) → scanned width s ≡ scanAnswer (finished width (tally width start s))
+  unfolding scanned rfc4180 scanAnswer
   tally-scans s =
       let t = finished width (tally width start s) in
       let q : final (t .state) ≡ regular begin s =

@@ -8,8 +8,9 @@ use mathlib.Core.List.{List, [], _∷_}
 use lib.Dec.{leb, eqb}
 use borrow.Author.Tests.{leb-true, le-leb, eqb-true, ne-eqb}
 use Rattle.base.proofs.Tests.{either, false-true, and-fst, and-snd}
-use Rattle.csv.specs.Grammar.{COMMA, CR, DQUOTE, LF, TEXTDATA, below-quote, below-comma, above-comma}
-use Rattle.csv.specs.Reading.{State, begin, plain, quoted, closing, ended, broken, textdata, Rest, byte, comma, crlf, next, grown, regular, rest}
+use Rattle.csv.specs.Grammar.{TEXTDATA, below-quote, below-comma, above-comma}
+use Rattle.csv.specs.Records.{State, begin, plain, quoted, closing, ended, broken, textdata, Rest, byte, comma, crlf, next, grown, regular, rest}
+use Rattle.csv.specs.Bytes.{COMMA, CR, DQUOTE, LF}
 
 -- a test's two outcomes
 abbrev Test : Bool → Type 0

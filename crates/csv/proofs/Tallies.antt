@@ -8,8 +8,8 @@ use lib.Dec.{eqb}
 use lib.ListN.{length, getD, drop}
 use Rattle.base.proofs.Lists.{drop-next, drop-end}
 use Rattle.base.proofs.Searches.{one-le}
-use Rattle.csv.specs.Reading.{next}
-use Rattle.csv.specs.Scan.{Tally, over, within, separates, atEnd, step, tally}
+use Rattle.csv.specs.Records.{next}
+use Rattle.csv.specs.promises.Scan.{Tally, over, insideField, separates, atEnd, step, tally}
 
 module _ (width : ℕ) where
   pub tally-next : (t : Tally) (s : List ℕ) (i : ℕ) → i < length s → tally width t (drop i s) ≡ tally width (step width t (getD s i 0)) (drop (i + 1) s)
@@ -30,6 +30,6 @@ pub step-bounded : (width n b : ℕ) (t : Tally) → Bounded n t → Bounded (n 
 unfolding step
 step-bounded width n b t h = go (atEnd (t .state))
   where
-    go : (e : Bool) → Bounded (n + 1) (cond e (over width (next (t .state) b) t) (within b t))
+    go : (e : Bool) → Bounded (n + 1) (cond e (over width (next (t .state) b) t) (insideField b t))
     go true = unfold over in omega (arith, one-le (eqb (t .fitting) (t .records) && eqb width (t .fields)))
-    go false = unfold within in omega (arith, one-le (separates (t .state) b))
+    go false = unfold insideField in omega (arith, one-le (separates (t .state) b))

@@ -8,10 +8,10 @@ use native.Mathlib.Omega.{arith}
 use lib.Dec.{eqb}
 use lib.ListN.{length}
 use borrow.Author.Tests.{eq-eqb, eqb-true}
-use Rattle.base.specs.Search.{leading}
 use Rattle.csv.specs.Grammar.{File}
-use Rattle.csv.specs.Fields.{texts, passed, recordTexts}
-use Rattle.csv.specs.Scan.{fitting}
+use Rattle.csv.specs.promises.Fields.{texts, passed, recordTexts}
+use Rattle.csv.specs.promises.Scan.{fitting}
+use Rattle.base.specs.promises.Counting.{leading}
 use Rattle.csv.proofs.Walk.{Alike, Within, over, Left, some, file-first, within-next}
 
 -- a record's fields beside their texts

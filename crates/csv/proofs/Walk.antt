@@ -11,8 +11,9 @@ use native.Mathlib.Numerals.{add-one}
 use lib.Dec.{eqb}
 use lib.ListN.{length, getD, take, length-append}
 use lib.Seq.{append-snoc, take-append-seam, drop-append-add, getD-append-add, take-at}
-use Rattle.csv.specs.Grammar.{COMMA, CR, DQUOTE, LF, NonEscaped, Opened, Escaped, Field, Record, File}
-use Rattle.csv.specs.Fields.{extent, unread, inner}
+use Rattle.csv.specs.Grammar.{NonEscaped, Opened, Escaped, Field, Record, File}
+use Rattle.csv.specs.promises.Fields.{extent, unread, inner}
+use Rattle.csv.specs.Bytes.{COMMA, CR, DQUOTE, LF}
 use Rattle.csv.proofs.Steps.{text-not}
 
 -- a field's value beside its text without the quotes around it

@@ -4,22 +4,7 @@
 -- Document 01 adds two sentences to the RFC, at `file` below. Assumes nothing.
 use Prim.Native.Nat.{ℕ, _≤_}
 use mathlib.Core.List.{List, [], _∷_}
-
--- COMMA = %x2C
-abbrev pub COMMA : ℕ
-COMMA = 0x2C
-
--- CR = %x0D
-abbrev pub CR : ℕ
-CR = 0x0D
-
--- DQUOTE = %x22
-abbrev pub DQUOTE : ℕ
-DQUOTE = 0x22
-
--- LF = %x0A
-abbrev pub LF : ℕ
-LF = 0x0A
+use Rattle.csv.specs.Bytes.{COMMA, CR, DQUOTE, LF}
 
 -- TEXTDATA = %x20-21 / %x23-2B / %x2D-7E
 pub data TEXTDATA (b : ℕ) : Type 0 where

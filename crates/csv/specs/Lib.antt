@@ -1,4 +1,4 @@
-pub mod Fields
+pub mod Bytes
 pub mod Grammar
-pub mod Reading
-pub mod Scan
+pub mod Records
+pub mod promises

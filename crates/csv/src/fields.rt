@@ -3,7 +3,7 @@ ghost use mathlib.Core.Path.{_≡_};
 ghost use mathlib.Core.Bool.{false};
 ghost use lib.ListN.{length, drop};
 ghost use Prim.Native.Nat.{_≤_};
-ghost use Rattle.csv.specs.Fields.{extent, unread, inner as Fields·inner, turned as Fields·turned, separates as Fields·separates};
+ghost use Rattle.csv.specs.promises.Fields.{extent, unread, inner as Fields·inner, turned as Fields·turned, endsField as Fields·separates};
 
 const CR: u8 = 0x0D;
 

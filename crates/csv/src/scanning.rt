@@ -3,9 +3,9 @@ ghost use mathlib.Core.Path.{_≡_};
 ghost use mathlib.Core.Bool.{_&&_};
 ghost use Prim.Native.Nat.{_≤_, _^_, max};
 ghost use lib.Dec.{eqb};
-ghost use Rattle.base.specs.Search.{one};
-ghost use Rattle.csv.specs.Reading.{begin, plain, quoted, closing, ended, final, afterField, next as Reading·next, textdata as Reading·textdata};
-ghost use Rattle.csv.specs.Scan.{scanned, state, kept, separates, atEnd, answer, step as Scan·step, over as Scan·over, finished as Scan·finished, Small};
+ghost use Rattle.csv.specs.Records.{begin, plain, quoted, closing, ended, final, afterField, next as Reading·next, textdata as Reading·textdata};
+ghost use Rattle.csv.specs.promises.Scan.{scanned, state, tallyOf, separates, atEnd, scanAnswer, step as Scan·step, over as Scan·over, finished as Scan·finished, Small};
+ghost use Rattle.base.specs.promises.Counting.{one};
 
 const LF: u8 = 0x0A;
 
@@ -194,7 +194,7 @@ fn may_end(place: Place) -> bool
 fn over(t: Tally, width: usize, place: Place) -> Tally
     requires { ⌜ t .records ≤ 2 ^ 63 ⌝ }
     requires { ⌜ t .fitting ≤ 2 ^ 63 ⌝ }
-    ensures { λ r. ⌜ kept r ≡ Scan·over width (state place) (kept t) ⌝ }
+    ensures { λ r. ⌜ tallyOf r ≡ Scan·over width (state place) (tallyOf t) ⌝ }
 {
     Tally {
         place: place,
@@ -224,7 +224,7 @@ fn at_least_one(n: usize) -> usize
 
 fn step(t: Tally, width: usize, b: u8) -> Tally
     requires { ⌜ Small t ⌝ }
-    ensures { λ r. ⌜ kept r ≡ Scan·step width (kept t) b ⌝ }
+    ensures { λ r. ⌜ tallyOf r ≡ Scan·step width (tallyOf t) b ⌝ }
 {
     let place = t.place;
     let after = next(place, b);
@@ -241,7 +241,7 @@ fn step(t: Tally, width: usize, b: u8) -> Tally
 
 fn finished(t: Tally, width: usize) -> Shape
     requires { ⌜ Small t ⌝ }
-    ensures { λ r. ⌜ r ≡ answer (Scan·finished width (kept t)) ⌝ }
+    ensures { λ r. ⌜ r ≡ scanAnswer (Scan·finished width (tallyOf t)) ⌝ }
 {
     if t.fields == 0 {
         return verdict(t);
@@ -251,7 +251,7 @@ fn finished(t: Tally, width: usize) -> Shape
 }
 
 fn verdict(t: Tally) -> Shape
-    ensures { λ r. ⌜ r ≡ answer (kept t) ⌝ }
+    ensures { λ r. ⌜ r ≡ scanAnswer (tallyOf t) ⌝ }
 {
     let place = t.place;
     if may_end(place) {

@@ -10,16 +10,17 @@ use Rattle.base.proofs.Tests.{false-true}
 use Rattle.tables.specs.Rows.{ScheduleRow}
 use Rattle.tables.specs.declared.files.Kind.{Kind}
 use Rattle.choice.specs.Choosing.{choice}
-use Rattle.choice.specs.Schedules.{kindIn, onCost, hasAny, schedules}
-use Rattle.choice.specs.declared.choosing.Choice.{Choice}
-use Rattle.choice.specs.declared.choosing.Chosen.{Chosen}
-use Rattle.choice.specs.declared.choosing.Chosen.the-variants.{Schedule, Nothing}
+use Rattle.choice.specs.Schedules.{onCost, hasAny, schedules}
+use Rattle.choice.specs.declared.choices.Choice.{Choice}
+use Rattle.choice.specs.declared.choices.Chosen.{Chosen}
+use Rattle.choice.specs.declared.choices.Chosen.the-variants.{Schedule, Nothing}
 use Rattle.choice.specs.declared.kinds.DayKind.{DayKind}
 use Rattle.choice.specs.declared.kinds.DayKind.the-variants.{OnC}
 use Rattle.choice.specs.declared.kinds.Kinds.the-variants.{OnlyC}
-use Rattle.cells.specs.Views.{answerWidth}
-use Rattle.judge.specs.Decision.{noChoice, chosenOr}
-use Rattle.decision.specs.Choosing.{lacksCostOn, rowFrom, rowCells, RowChosen}
+use Rattle.choice.specs.promises.Kinds.{kindIn}
+use Rattle.cells.specs.promises.Views.{answerWidth}
+use Rattle.outcome.specs.Decision.{noChoice, chosenOr}
+use Rattle.decision.specs.promises.Choosing.{lacksCostOn, rowFrom, answerCells, RowChosen}
 use Rattle.decision.specs.declared.testing.UnitTest.{UnitTest}
 
 -- 21 asks only for units that run on cost
@@ -45,12 +46,12 @@ module _
     (h : ℕ) (rows : List ScheduleRow) (day : Option Kind) (t : UnitTest) (before after : List ℕ) {lacks : Bool}
     (l : lacks ≡ lacksCostOn day h rows)
   where
-    pub row-costless : lacks ≡ true → after ≡ before → RowChosen h rows day t before after false
-    row-costless e f = record { answers = sym (ap not (sym l ∙ e)); laid = λ z. false-true z; same-length = ap length f }
+    pub row-without-cost : lacks ≡ true → after ≡ before → RowChosen h rows day t before after false
+    row-without-cost e f = record { answers = sym (ap not (sym l ∙ e)); laid = λ z. false-true z; same-length = ap length f }
 
     pub row-chosen :
         lacks ≡ false → answerWidth ≤ length before → (s : Choice) → s ≡ chosenOr (choice day (t .exposed) h rows) →
-        after ≡ rowCells (rowFrom t s) ++ drop answerWidth before → RowChosen h rows day t before after true
+        after ≡ answerCells (rowFrom t s) ++ drop answerWidth before → RowChosen h rows day t before after true
     row-chosen e room s chosen laid =
         record {
           answers = sym (ap not (sym l ∙ e));

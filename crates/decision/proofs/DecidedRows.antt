@@ -3,16 +3,15 @@ use Prim.Native.Nat.{ℕ}
 use mathlib.Core.Path.{_≡_, refl, _∙_, ap}
 use mathlib.Core.List.{List, [], _∷_, map}
 use lib.ListN.{take}
-use Rattle.tables.specs.Rows.{SupplyRow, ScheduleRow}
+use Rattle.tables.specs.Rows.{SupplyRow, ScheduleRow, AnswerRow}
 use Rattle.tables.specs.declared.constraint.ConstraintRow.{ConstraintRow}
 use Rattle.supply.specs.Supply.{units}
-use Rattle.cells.specs.Views.{AnswerRow}
-use Rattle.judge.specs.Day.{RunningUnit}
-use Rattle.judge.specs.Decision.{choiceOf, decidedRow, decided, costless}
-use Rattle.decision.specs.Choosing.{rowChosen, testedUnits, ChoosesRows}
-use Rattle.decision.specs.Deciding.{DecidesRows}
-use Rattle.decision.specs.Testing.{unitTest}
-use Rattle.decision.specs.Units.{UnitsOf}
+use Rattle.outcome.specs.Day.{RunningUnit}
+use Rattle.outcome.specs.Decision.{choiceOf, decidedRow, decided, noCostSchedule}
+use Rattle.decision.specs.promises.Choosing.{rowChosen, testedUnits, ChoosesRows}
+use Rattle.decision.specs.promises.Deciding.{DecidesRows}
+use Rattle.decision.specs.promises.Testing.{unitTest}
+use Rattle.decision.specs.promises.Units.{UnitsOf}
 use Rattle.decision.specs.declared.deciding.Decided.{Decided}
 use Rattle.decision.specs.declared.testing.UnitTest.{UnitTest}
 
@@ -32,7 +31,7 @@ module _ (c : ConstraintRow) (supply : List SupplyRow) (scheduled : List Schedul
       (k : ℕ) (us : List ℕ) → UnitsOf k supply us → (ts : List UnitTest) → ts ≡ map (unitTest c supply) (take k us) →
       (new : List ℕ) (r : Decided) → ChoosesRows (c .hour) scheduled running ts k new r →
       DecidesRows c supply scheduled running k new r
-  unfolding costless decided
+  unfolding noCostSchedule decided
   decides-rows k us of-supply ts tested new r chosen =
       record {
         answers = chosen .answers ∙ rw (tested, of-supply .listed, tested-units);

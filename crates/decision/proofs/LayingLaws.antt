@@ -11,20 +11,21 @@ use lib.ListN.{length, getD, take, drop, length-append, length-drop, length-map,
 use lib.Seq.{take-at, drop-at, getD-take, length-take-le}
 use Rattle.base.specs.Search.{find}
 use Rattle.base.proofs.Lists.{drop-next, drop-end, rest-lent, rest-back}
-use Rattle.tables.specs.Rows.{ScheduleRow, rowsOf}
+use Rattle.tables.specs.Rows.{ScheduleRow, AnswerRow}
 use Rattle.tables.specs.declared.files.Kind.{Kind}
+use Rattle.tables.specs.promises.FlatRows.{rowsOf}
 use Rattle.schedules.specs.Schedules.{own}
-use Rattle.cells.specs.Views.{AnswerRow, answerWidth, answerRows}
-use Rattle.judge.specs.Day.{RunningUnit, kindRunning}
-use Rattle.judge.specs.Decision.{lacksCost}
-use Rattle.decision.specs.Choosing.{lacksCostOn, rowCells, rowChosen, testedUnits, RowChosen, ChoosesRows}
-use Rattle.decision.specs.declared.deciding.Decided.the-variants.{All, Costless}
+use Rattle.cells.specs.promises.Views.{answerWidth, answerRows}
+use Rattle.outcome.specs.Day.{RunningUnit, kindRunning}
+use Rattle.outcome.specs.Decision.{lacksCost}
+use Rattle.decision.specs.promises.Choosing.{lacksCostOn, answerCells, rowChosen, testedUnits, RowChosen, ChoosesRows}
+use Rattle.decision.specs.declared.deciding.Decided.the-variants.{All, NoCostSchedule}
 use Rattle.decision.specs.declared.testing.UnitTest.{UnitTest}
 
 -- a run of cells with some rows laid down from its start
 unfoldable pub laidRows : List AnswerRow → List ℕ → List ℕ
 laidRows [] out = out
-laidRows (r ∷ rs) out = rowCells r ++ laidRows rs (drop answerWidth out)
+laidRows (r ∷ rs) out = answerCells r ++ laidRows rs (drop answerWidth out)
 
 rows-laid : (rs : List AnswerRow) (out : List ℕ) → answerRows (length rs) (laidRows rs out) ≡ rs
 unfolding laidRows answerRows rowsOf
@@ -91,9 +92,9 @@ module _ (h : ℕ) (scheduled : List ScheduleRow) (running : List RunningUnit) (
           unfolding lacksCostOn lacksCost
           lacks = rw its-kind
 
-          pub laying-costless : not r ≡ true → (new : List ℕ) → ChoosesRows h scheduled running ts k new (Costless (t .unit))
+          pub laying-without-cost : not r ≡ true → (new : List ℕ) → ChoosesRows h scheduled running ts k new (NoCostSchedule (t .unit))
           unfolding find
-          laying-costless e new =
+          laying-without-cost e new =
               let costless : lacksCost h scheduled running (t .unit) ≡ true =
               sym lacks ∙ not-false _ (sym (chosen .answers) ∙ not-true r e) in
               let named : namedIn ts ≡ some (t .unit) = l .none-before ∙ rw (next, costless) in
@@ -102,7 +103,7 @@ module _ (h : ℕ) (scheduled : List ScheduleRow) (running : List RunningUnit) (
                 rows = λ z. let o : _≡_ {A = ℕ} 0 1 = cc in absurd (omega arith);
               }
 
-          laid-row : r ≡ true → after ≡ rowCells (rowChosen h scheduled running t) ++ drop 7 (drop (i * 7) now)
+          laid-row : r ≡ true → after ≡ answerCells (rowChosen h scheduled running t) ++ drop 7 (drop (i * 7) now)
           unfolding rowChosen
           laid-row g = rw (its-kind, rest-lent (i * 7) now) at (chosen .laid g)
 
@@ -125,7 +126,7 @@ module _ (h : ℕ) (scheduled : List ScheduleRow) (running : List RunningUnit) (
               laying-next e =
                   let kept : lacksCost h scheduled running (t .unit) ≡ false =
                   sym lacks ∙ not-true _ (sym (chosen .answers) ∙ not-false r e) in
-                  let row = rowCells (rowChosen h scheduled running t) in
+                  let row = answerCells (rowChosen h scheduled running t) in
                   let front = take (i * 7) now ++ row in
                   let rest = drop 7 (drop (i * 7) now) in
                   let whole : new ≡ front ++ rest =

@@ -8,12 +8,12 @@ use lib.Seq.{getD-set-same, getD-set-other, getD-take, length-take-le}
 use Rattle.base.proofs.Lists.{drop-next, drop-end}
 use Rattle.tables.specs.Rows.{SupplyRow, ScheduleRow}
 use Rattle.tables.specs.declared.constraint.ConstraintRow.{ConstraintRow}
-use Rattle.cells.specs.Views.{answerAt, answerRows}
+use Rattle.cells.specs.promises.Views.{answerAt, answerRows}
 use Rattle.cells.proofs.RowStores.{cell-kept, Changing, changing-none, changing-next, changing-over}
 use Rattle.cells.proofs.RowViews.{answer-next, answer-length}
-use Rattle.judge.specs.Day.{RunningUnit}
-use Rattle.judge.specs.Decision.{decidedRow}
-use Rattle.decision.specs.Naming.{supplierOf, named, allNamed, RowsNamed}
+use Rattle.outcome.specs.Day.{RunningUnit}
+use Rattle.outcome.specs.Decision.{decidedRow}
+use Rattle.decision.specs.promises.Naming.{supplierOf, named, allNamed, RowsNamed}
 
 -- a store of a supplier: its row, and another
 module _ (cells : List ℕ) (i v : ℕ) where
@@ -91,10 +91,10 @@ module _ (suppliers : List ℕ) (k : ℕ) (old : List ℕ) where
 
 -- rows that were decided by groups, with the suppliers of the supply file
 pub named-rows :
-    (c : ConstraintRow) (supply : List SupplyRow) (scheduled : List ScheduleRow) (running : List RunningUnit) (filed : List SupplyRow)
+    (c : ConstraintRow) (supply : List SupplyRow) (scheduled : List ScheduleRow) (running : List RunningUnit) (ungrouped : List SupplyRow)
     (us : List ℕ) →
-    allNamed (map (supplierOf filed) us) (map (decidedRow c supply scheduled running supply) us)
-    ≡ map (decidedRow c supply scheduled running filed) us
+    allNamed (map (supplierOf ungrouped) us) (map (decidedRow c supply scheduled running supply) us)
+    ≡ map (decidedRow c supply scheduled running ungrouped) us
 unfolding allNamed decidedRow
-named-rows c supply scheduled running filed [] = refl
-named-rows c supply scheduled running filed (u ∷ us) = rw (named-rows c supply scheduled running filed us)
+named-rows c supply scheduled running ungrouped [] = refl
+named-rows c supply scheduled running ungrouped (u ∷ us) = rw (named-rows c supply scheduled running ungrouped us)

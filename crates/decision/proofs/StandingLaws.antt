@@ -7,19 +7,21 @@ use native.Mathlib.Omega.{arith}
 use borrow.Author.Tests.{lt-ltb, le-ltb}
 use lib.ListN.{take, drop, length-map}
 use lib.Seq.{take-at}
-use Rattle.base.specs.Writing.{Wrote}
-use Rattle.tables.specs.Rows.{SupplyRow, supplyRows}
+use Rattle.base.specs.promises.Writing.{Wrote}
+use Rattle.tables.specs.Rows.{SupplyRow}
 use Rattle.tables.specs.declared.constraint.ConstraintRow.{ConstraintRow}
-use Rattle.tables.specs.Table.{columnAt, allColumns, constraintColumns, supplyColumns, schedulesColumns}
+use Rattle.tables.specs.Table.{constraintColumns, supplyColumns, schedulesColumns}
+use Rattle.tables.specs.promises.FlatRows.{supplyRows}
+use Rattle.tables.specs.promises.Columns.{allColumns, columnAt}
 use Rattle.cells.proofs.RowViews.{supply-length}
 use Rattle.market.specs.Clearing.{needOf, short, clearing, clearingRow, eligibleSupply}
 use Rattle.market.specs.Parties.{parties, amountOf, amounts}
-use Rattle.cells.specs.Views.{supplyAt}
-use Rattle.offers.specs.Ranges.{mostRelief}
+use Rattle.cells.specs.promises.Views.{supplyAt}
+use Rattle.offers.specs.promises.Ranges.{mostRelief}
 use Rattle.offers.proofs.CellLaws.{row-at}
 use Rattle.market.proofs.ClearingLaws.{clearing-clears}
-use Rattle.judge.specs.Decision.{untested, cleared}
-use Rattle.decision.specs.Standing.{MarketCells, standing, Stands}
+use Rattle.outcome.specs.Decision.{untested, cleared}
+use Rattle.decision.specs.promises.Standing.{MarketCells, standing, Stands}
 use Rattle.decision.specs.declared.standing.Standing.the-variants.{Short, Cleared}
 
 module _ (c : ConstraintRow) (n : ℕ) (cells : List ℕ) (market : MarketCells c n cells) where

@@ -6,30 +6,20 @@ use mathlib.Core.List.{List}
 use native.Mathlib.Omega.{arith}
 use lib.ListN.{length, take, length-map, length-take}
 use Rattle.numbers.specs.Numbers.{placeOf}
-use Rattle.tables.specs.Rows.{SupplyRow, supplyRows}
+use Rattle.tables.specs.Rows.{SupplyRow}
 use Rattle.tables.specs.declared.constraint.ConstraintRow.{ConstraintRow}
+use Rattle.tables.specs.promises.FlatRows.{supplyRows}
 use Rattle.cells.proofs.RowViews.{supply-length}
 use Rattle.market.specs.Clearing.{needOf, clearing}
 use Rattle.market.specs.Parties.{party, parties, amountOf, amounts}
 use Rattle.market.proofs.AmountLaws.{amounts-limited}
-use Rattle.pivotal.specs.Tally.{Limited}
-use Rattle.pivotal.specs.Test.{left, pivotal}
-use Rattle.choice.specs.Exposure.{U, P, F, exposed}
-use Rattle.judge.specs.Answer.{verdictLetter}
-use Rattle.judge.specs.Decision.{
-  need,
-  unitRow,
-  untested,
-  leftOf,
-  verdictOf,
-  leftShown,
-  hasRelevant,
-  hasEligible,
-  exposedUnit,
-}
-use Rattle.decision.specs.Standing.{MarketCells, standing, Stands}
-use Rattle.decision.specs.Testing.{unitTest, InMarket}
-use Rattle.decision.specs.Units.{anyOf, wantedRow}
+use Rattle.pivotal.specs.promises.Tally.{Limited}
+use Rattle.pivotal.specs.Test.{left, pivotal, U, P, F, verdictLetter}
+use Rattle.choice.specs.Exposure.{exposed}
+use Rattle.outcome.specs.Decision.{unitRow, untested, leftOf, verdictOf, leftShown, hasRelevant, hasEligible, exposedUnit}
+use Rattle.decision.specs.promises.Standing.{MarketCells, standing, Stands}
+use Rattle.decision.specs.promises.Testing.{unitTest, InMarket}
+use Rattle.decision.specs.promises.Units.{anyOf, wantedRow}
 use Rattle.decision.specs.declared.standing.Standing.{Standing}
 use Rattle.decision.specs.declared.standing.Standing.the-variants.{Short, Cleared}
 use Rattle.decision.specs.declared.units.Wanted.the-variants.{Eligible, Relevant}
@@ -41,7 +31,7 @@ module _ (c : ConstraintRow) (supply : List SupplyRow) where
   unfolding standing
   short-stands e = simp e
 
-  cleared-stands : untested c supply ≡ false → standing c supply ≡ Cleared (clearing (c .cutoff) (need c) supply) (length (parties supply))
+  cleared-stands : untested c supply ≡ false → standing c supply ≡ Cleared (clearing (c .cutoff) (needOf (c .relief)) supply) (length (parties supply))
   unfolding standing
   cleared-stands e = simp e
 
@@ -62,7 +52,7 @@ module _ (c : ConstraintRow) (supply : List SupplyRow) where
         go true f = let z : _≡_ {A = ℕ} 0 1 = cc (stands .answers, e, short-stands f) in absurd (omega arith)
         go false f =
             let counted : count ≡ length (parties supply) = cc (stands .answers, e, cleared-stands f) in
-            let clears : q ≡ clearing (c .cutoff) (need c) supply = cc (stands .answers, e, cleared-stands f) in
+            let clears : q ≡ clearing (c .cutoff) (needOf (c .relief)) supply = cc (stands .answers, e, cleared-stands f) in
             (counted, record { enough = f; clears = clears; all-parties = rw counted (stands .listed f); all-amounts = rw counted (stands .added f) })
 
     -- as the parts that are lent

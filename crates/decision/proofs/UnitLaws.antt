@@ -14,12 +14,13 @@ use Rattle.base.specs.Rising.{among}
 use Rattle.base.specs.Search.{any}
 use Rattle.base.proofs.Finds.{find-here, find-later}
 use Rattle.base.proofs.Tests.{false-true, lt-or-ge, either}
-use Rattle.tables.specs.Rows.{SupplyRow, supplyRows}
-use Rattle.cells.specs.Views.{supplyWidth, supplyAt}
+use Rattle.tables.specs.Rows.{SupplyRow}
+use Rattle.tables.specs.promises.FlatRows.{supplyRows}
+use Rattle.cells.specs.promises.Views.{supplyWidth, supplyAt}
 use Rattle.offers.proofs.CellLaws.{rows-next, rows-end}
 use Rattle.supply.proofs.UnitLaws.{among-units}
-use Rattle.judge.specs.Decision.{ofUnit, unitRow}
-use Rattle.decision.specs.Units.{UnitsOf, UnitFound, anyOf}
+use Rattle.outcome.specs.Decision.{ofUnit, unitRow}
+use Rattle.decision.specs.promises.Units.{UnitsOf, UnitFound, anyOf}
 
 pub of-unit : (cells : List ℕ) (i u : ℕ) → eqb (getD cells (i * supplyWidth + 0) 0) u ≡ ofUnit u (supplyAt cells i)
 unfolding ofUnit

@@ -1,6 +1,1 @@
-pub mod Choosing
-pub mod Deciding
-pub mod Naming
-pub mod Standing
-pub mod Testing
-pub mod Units
+pub mod promises

@@ -1,20 +1,20 @@
 // A unit's choice, from its own schedule rows, which are found along links, and the day's kind for it.
 ghost use mathlib.Core.Path.{_≡_};
-ghost use Rattle.tables.specs.Rows.{scheduleRows};
-ghost use Rattle.links.specs.Links.{RowsLinked};
+ghost use Rattle.links.specs.promises.Links.{RowsLinked};
 ghost use Rattle.schedules.specs.Schedules.{own};
 ghost use Rattle.choice.specs.Choosing.{choice};
-ghost use Rattle.choice.specs.Schedules.{kindIn};
-ghost use Rattle.commitment.specs.Ranges.{ScheduleCells};
-ghost use Rattle.judge.specs.Decision.{chosenOr};
-ghost use Rattle.decision.specs.Choosing.{lacksCostOn};
+ghost use Rattle.choice.specs.promises.Ranges.{ScheduleCells};
+ghost use Rattle.choice.specs.promises.Kinds.{kindIn};
+ghost use Rattle.outcome.specs.Decision.{chosenOr};
+ghost use Rattle.decision.specs.promises.Choosing.{lacksCostOn};
+ghost use Rattle.tables.specs.promises.FlatRows.{scheduleRows};
 use crate::testing::UnitTest;
 use choice::Choice;
 use choice::Chosen;
 use choice::DayKind;
 use choice::Kinds;
-use commitment::choose;
-use commitment::has_any;
+use choice::choose;
+use choice::has_any;
 use tables::Kind;
 
 // Whether the unit runs on cost and has no C schedule.

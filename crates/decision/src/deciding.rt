@@ -3,19 +3,19 @@ ghost use mathlib.Core.Path.{_≡_};
 ghost use mathlib.Core.List.{_++_};
 ghost use Prim.Native.Nat.{_*_, _≤_};
 ghost use lib.ListN.{length, take, drop};
-ghost use Rattle.tables.specs.Rows.{supplyRows, scheduleRows};
-ghost use Rattle.links.specs.Links.{RowsLinked};
+ghost use Rattle.tables.specs.promises.FlatRows.{supplyRows, scheduleRows};
+ghost use Rattle.links.specs.promises.Links.{RowsLinked};
 ghost use Rattle.supply.specs.Supply.{mostUnits};
 ghost use Rattle.schedules.specs.Schedules.{own};
-ghost use Rattle.choice.specs.Schedules.{kindIn};
-ghost use Rattle.commitment.specs.Ranges.{ScheduleCells};
-ghost use Rattle.cells.specs.Views.{answerWidth};
-ghost use Rattle.judge.specs.Day.{mostRunning};
+ghost use Rattle.choice.specs.promises.Ranges.{ScheduleCells};
+ghost use Rattle.choice.specs.promises.Kinds.{kindIn};
+ghost use Rattle.cells.specs.promises.Views.{answerWidth};
+ghost use Rattle.outcome.specs.Day.{mostRunning};
 ghost use Rattle.running.specs.View.{unitsOf};
-ghost use Rattle.decision.specs.Choosing.{rowFrom, rowCells, RowChosen, ChoosesRows};
-ghost use Rattle.decision.specs.Deciding.{DecidesRows};
-ghost use Rattle.decision.specs.Standing.{MarketCells};
-ghost use Rattle.decision.specs.Units.{UnitsOf};
+ghost use Rattle.decision.specs.promises.Choosing.{rowFrom, answerCells, RowChosen, ChoosesRows};
+ghost use Rattle.decision.specs.promises.Deciding.{DecidesRows};
+ghost use Rattle.decision.specs.promises.Standing.{MarketCells};
+ghost use Rattle.decision.specs.promises.Units.{UnitsOf};
 use crate::choosing::choose_for;
 use crate::choosing::lacks_cost;
 use crate::testing::Tests;
@@ -32,7 +32,7 @@ use tables::letter_of;
 // Every unit is decided, or a unit that runs on cost has no C schedule.
 pub enum Decided {
     All,
-    Costless(u64),
+    NoCostSchedule(u64),
 }
 
 // Decides the units of supply on a day with these units running, and lays down their rows.
@@ -99,7 +99,7 @@ fn choose_rows(
             day,
             &mut rows[i * answer::WIDTH..],
         ) {
-            return Decided::Costless(test.unit);
+            return Decided::NoCostSchedule(test.unit);
         }
         i += 1;
     }
@@ -131,7 +131,7 @@ fn choose_row(
 
 fn lay_row(test: UnitTest, choice: Choice, row: &mut [u64])
     requires { ⌜ answerWidth ≤ length (now row) ⌝ }
-    ensures { λ _. ⌜ now (row .exit) ≡ rowCells (rowFrom test choice) ++ drop answerWidth (now (row .entry)) ⌝ }
+    ensures { λ _. ⌜ now (row .exit) ≡ answerCells (rowFrom test choice) ++ drop answerWidth (now (row .entry)) ⌝ }
 {
     let kind = choice.kind;
     row[answer::UNIT] = test.unit;

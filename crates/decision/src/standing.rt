@@ -1,8 +1,8 @@
 // How the market stands, before any unit is looked at.
 ghost use Prim.Native.Nat.{_≤_, _<_};
 ghost use lib.ListN.{length};
-ghost use Rattle.tables.specs.Rows.{supplyRows};
-ghost use Rattle.decision.specs.Standing.{Stands, MarketCells, mostParties};
+ghost use Rattle.decision.specs.promises.Standing.{Stands, MarketCells, mostParties};
+ghost use Rattle.tables.specs.promises.FlatRows.{supplyRows};
 use market::add_amounts;
 use market::clearing_row;
 use market::eligible_supply;

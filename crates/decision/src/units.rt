@@ -2,11 +2,11 @@
 ghost use mathlib.Core.Path.{_≡_};
 ghost use mathlib.Core.Bool.{true, _&&_};
 ghost use Rattle.base.specs.Search.{any};
-ghost use Rattle.tables.specs.Rows.{supplyRows};
-ghost use Rattle.cells.specs.Views.{supplyAt};
-ghost use Rattle.offers.specs.Ranges.{RowCells, SupplyCells};
-ghost use Rattle.judge.specs.Decision.{ofUnit};
-ghost use Rattle.decision.specs.Units.{UnitFound, anyOf, wantedRow, WantedCells};
+ghost use Rattle.cells.specs.promises.Views.{supplyAt};
+ghost use Rattle.offers.specs.promises.Ranges.{SupplyRowAt, SupplyCells};
+ghost use Rattle.outcome.specs.Decision.{ofUnit};
+ghost use Rattle.decision.specs.promises.Units.{UnitFound, anyOf, wantedRow, WantedCells};
+ghost use Rattle.tables.specs.promises.FlatRows.{supplyRows};
 use cells::supply::UNIT;
 use cells::supply::WIDTH;
 use offers::is_eligible;
@@ -60,14 +60,14 @@ pub fn has_wanted(
 }
 
 fn is_of(cells: &[u64], row: usize, unit: u64) -> bool
-    requires { ⌜ RowCells (now cells) row ⌝ }
+    requires { ⌜ SupplyRowAt (now cells) row ⌝ }
     ensures { λ r. ⌜ r ≡ ofUnit unit (supplyAt (now (cells .entry)) row) ⌝ }
 {
     cells[row * WIDTH + UNIT] == unit
 }
 
 fn is_wanted_of(cells: &[u64], row: usize, unit: u64, cutoff: u64, wanted: Wanted) -> bool
-    requires { ⌜ RowCells (now cells) row ⌝ }
+    requires { ⌜ SupplyRowAt (now cells) row ⌝ }
     requires { ⌜ WantedCells (now cells) wanted ⌝ }
     ensures { λ r. ⌜ r ≡ (ofUnit unit (supplyAt (now (cells .entry)) row) && wantedRow (now (cells .entry)) cutoff wanted (supplyAt (now (cells .entry)) row)) ⌝ }
 {
@@ -78,7 +78,7 @@ fn is_wanted_of(cells: &[u64], row: usize, unit: u64, cutoff: u64, wanted: Wante
 }
 
 fn is_wanted(cells: &[u64], row: usize, cutoff: u64, wanted: Wanted) -> bool
-    requires { ⌜ RowCells (now cells) row ⌝ }
+    requires { ⌜ SupplyRowAt (now cells) row ⌝ }
     requires { ⌜ WantedCells (now cells) wanted ⌝ }
     ensures { λ r. ⌜ r ≡ wantedRow (now (cells .entry)) cutoff wanted (supplyAt (now (cells .entry)) row) ⌝ }
 {

@@ -9,25 +9,25 @@ use lib.Dec.{leb}
 use lib.ListN.{length, take}
 use borrow.Author.Tests.{le-leb, lt-leb}
 use Rattle.base.specs.Search.{firstOf}
-use Rattle.tables.specs.Reading.{refused}
-use Rattle.tables.specs.Rows.{SupplyRow, ScheduleRow}
+use Rattle.tables.specs.Rows.{SupplyRow, ScheduleRow, AnswerRow}
 use Rattle.tables.specs.declared.constraint.ConstraintRow.{ConstraintRow}
 use Rattle.tables.specs.declared.files.File.the-variants.{Schedules}
 use Rattle.tables.specs.declared.files.Refusal.{Refusal}
-use Rattle.cells.specs.Views.{AnswerRow, answerRows, answerWidth}
+use Rattle.tables.specs.Refusals.{refused, bareRefusal, unless}
+use Rattle.cells.specs.promises.Views.{answerRows, answerWidth}
 use Rattle.supply.specs.Supply.{units}
-use Rattle.filing.specs.Filing.{Files, constraintOf, supplyOf, schedulesOf, groupsOf, marketRefusals, besideRefusals, filingRefusals, filingRefusal}
+use Rattle.checking.specs.Files.{Files, constraintOf, supplyOf, schedulesOf, groupsOf, marketRefusals, besideRefusals, checkRefusals, checkRefusal}
 use Rattle.base.proofs.FirstLaws.{first-of-one, first-of-here, first-of-later, first-of-part, first-of-rest}
-use Rattle.decision.specs.Deciding.{DecidesRows as RowsDecide}
-use Rattle.decision.specs.Units.{UnitsOf}
+use Rattle.decision.specs.promises.Deciding.{DecidesRows}
+use Rattle.decision.specs.promises.Units.{UnitsOf}
 use Rattle.decision.specs.declared.deciding.Decided.{Decided}
-use Rattle.decision.specs.declared.deciding.Decided.the-variants.{All as AllDecided, Costless}
-use Rattle.answer.proofs.StudyLetters.{decided-lettered}
-use Rattle.judge.specs.Day.{RunningUnit, mostRunning, dayFormed, stateRefused, unless, earlier, wouldRun}
-use Rattle.judge.specs.Decision.{decided, costless}
-use Rattle.judge.specs.Study.{crowding, rowsRefusals, studyRows, decisionRefusals, decisionRefusal}
-use Rattle.judge.proofs.RowsToBytes.{rows-units}
-use Rattle.engine.specs.Deciding.{RowsReady, Laid, Decides, DecidesRows, DecidesMarket, DecidesGroups, DecidesStudy}
+use Rattle.decision.specs.declared.deciding.Decided.the-variants.{All as AllDecided, NoCostSchedule}
+use Rattle.outcome.proofs.StudyLetters.{decided-lettered}
+use Rattle.outcome.specs.Day.{RunningUnit, mostRunning, dayFormed, earlier, wouldRun}
+use Rattle.outcome.specs.Decision.{decided, noCostSchedule}
+use Rattle.outcome.specs.Study.{tooManyRunning, rowsRefusals, studyRows, decisionRefusals, decisionRefusal}
+use Rattle.outcome.proofs.RowsToBytes.{rows-units}
+use Rattle.engine.specs.promises.Deciding.{RowsReady, Laid, Decides, DecidesFromRows, DecidesMarket, DecidesGroups, DecidesStudy}
 use Rattle.engine.specs.View.{viewOf}
 use Rattle.engine.specs.declared.day.Day.{Day}
 use Rattle.engine.specs.declared.deciding.Deciding.{Deciding}
@@ -56,19 +56,19 @@ module _ (o : Option Refusal) (hour : ℕ) (rows : List AnswerRow) (running : Li
 -- as deciding answered
 module _
     (c : ConstraintRow) (rows : List SupplyRow) (scheduled : List ScheduleRow) (running : List RunningUnit) (k : ℕ) (new : List ℕ) {r : Decided}
-    (decides : RowsDecide c rows scheduled running k new r)
+    (decides : DecidesRows c rows scheduled running k new r)
   where
-    pub was-costless : {u : ℕ} → r ≡ Costless u → costless (c .hour) rows scheduled running ≡ some u
-    was-costless {u} e = go (costless (c .hour) rows scheduled running) refl
+    pub was-without-cost : {u : ℕ} → r ≡ NoCostSchedule u → noCostSchedule (c .hour) rows scheduled running ≡ some u
+    was-without-cost {u} e = go (noCostSchedule (c .hour) rows scheduled running) refl
       where
-        go : (o : Option ℕ) → costless (c .hour) rows scheduled running ≡ o → costless (c .hour) rows scheduled running ≡ some u
+        go : (o : Option ℕ) → noCostSchedule (c .hour) rows scheduled running ≡ o → noCostSchedule (c .hour) rows scheduled running ≡ some u
         go none f = let z : _≡_ {A = ℕ} 0 1 = cc (decides .answers, e, f) in absurd (omega arith)
         go (some x) f = cc (decides .answers, e, f)
 
-    pub was-decided : r ≡ AllDecided → costless (c .hour) rows scheduled running ≡ none
-    was-decided e = go (costless (c .hour) rows scheduled running) refl
+    pub was-decided : r ≡ AllDecided → noCostSchedule (c .hour) rows scheduled running ≡ none
+    was-decided e = go (noCostSchedule (c .hour) rows scheduled running) refl
       where
-        go : (o : Option ℕ) → costless (c .hour) rows scheduled running ≡ o → costless (c .hour) rows scheduled running ≡ none
+        go : (o : Option ℕ) → noCostSchedule (c .hour) rows scheduled running ≡ o → noCostSchedule (c .hour) rows scheduled running ≡ none
         go none f = f
         go (some x) f = let z : _≡_ {A = ℕ} 0 1 = cc (decides .answers, e, f) in absurd (omega arith)
 
@@ -89,10 +89,10 @@ module _
 -- the rows of the files: 20, 21, 22
 module _ (day : Day) (c : ConstraintRow) (supply : List SupplyRow) (scheduled : List ScheduleRow) (new : List ℕ) (r : Deciding) where
   pub rows-earlier :
-      {t : Bool} → t ≡ earlier (c .hour) (viewOf day .hour) → t ≡ true → r ≡ Refused (stateRefused 20) → DecidesRows day c supply scheduled new r
+      {t : Bool} → t ≡ earlier (c .hour) (viewOf day .hour) → t ≡ true → r ≡ Refused (bareRefusal 20) → DecidesFromRows day c supply scheduled new r
   unfolding rowsRefusals
   rows-earlier e f g =
-      decides-refused _ _ _ _ new (stateRefused 20) r
+      decides-refused _ _ _ _ new (bareRefusal 20) r
       (first-of-here _ _ _ (unless-broken (not (earlier (c .hour) (viewOf day .hour))) 20 (ap not (sym e ∙ f))))
       g
 
@@ -100,46 +100,46 @@ module _ (day : Day) (c : ConstraintRow) (supply : List SupplyRow) (scheduled : 
     in-time : unless (not (earlier (c .hour) (viewOf day .hour))) 20 ≡ none
     in-time = unless-kept (not (earlier (c .hour) (viewOf day .hour))) 20 (ap not (sym e ∙ timely))
 
-    pub rows-costless :
-        (u : ℕ) → costless (c .hour) supply scheduled (viewOf day .running) ≡ some u → r ≡ Refused (refused 21 Schedules u) →
-        DecidesRows day c supply scheduled new r
+    pub rows-without-cost :
+        (u : ℕ) → noCostSchedule (c .hour) supply scheduled (viewOf day .running) ≡ some u → r ≡ Refused (refused 21 Schedules u) →
+        DecidesFromRows day c supply scheduled new r
     unfolding rowsRefusals
-    rows-costless u f g =
+    rows-without-cost u f g =
         decides-refused _ _ _ _ new (refused 21 Schedules u) r
         (first-of-later _ _ in-time ∙ first-of-here _ _ _ (ap (Option·map (refused 21 Schedules)) f))
         g
 
-    module _ (on-cost : costless (c .hour) supply scheduled (viewOf day .running) ≡ none) (w : ℕ) (counted : w ≡ wouldRun (units supply) (viewOf day .running)) where
-      crowd-left : firstOf (rowsRefusals (viewOf day) c supply scheduled) ≡ crowding (viewOf day) (units supply)
+    module _ (on-cost : noCostSchedule (c .hour) supply scheduled (viewOf day .running) ≡ none) (w : ℕ) (counted : w ≡ wouldRun (units supply) (viewOf day .running)) where
+      over-limit-left : firstOf (rowsRefusals (viewOf day) c supply scheduled) ≡ tooManyRunning (viewOf day) (units supply)
       unfolding rowsRefusals
-      crowd-left =
+      over-limit-left =
           first-of-later _ _ in-time ∙ first-of-later _ _ (ap (Option·map (refused 21 Schedules)) on-cost)
-          ∙ first-of-one (crowding (viewOf day) (units supply))
+          ∙ first-of-one (tooManyRunning (viewOf day) (units supply))
 
-      pub rows-crowded : mostRunning < w → r ≡ Refused (stateRefused 22) → DecidesRows day c supply scheduled new r
-      unfolding crowding
-      rows-crowded h g =
-          decides-refused _ _ _ _ new (stateRefused 22) r
-          (crowd-left
+      pub rows-over-limit : mostRunning < w → r ≡ Refused (bareRefusal 22) → DecidesFromRows day c supply scheduled new r
+      unfolding tooManyRunning
+      rows-over-limit h g =
+          decides-refused _ _ _ _ new (bareRefusal 22) r
+          (over-limit-left
           ∙ unless-broken (leb (wouldRun (units supply) (viewOf day .running)) mostRunning) 22 (lt-leb (wouldRun (units supply) (viewOf day .running)) mostRunning (omega (arith, counted))))
           g
 
       pub rows-laid :
           w ≤ mostRunning → (k : ℕ) → r ≡ Rows (c .hour) k → answerRows k new ≡ decided c supply scheduled (viewOf day .running) supply →
-          RowsReady (viewOf day .running) k new → DecidesRows day c supply scheduled new r
-      unfolding crowding
+          RowsReady (viewOf day .running) k new → DecidesFromRows day c supply scheduled new r
+      unfolding tooManyRunning
       rows-laid h k g laid ready =
           decides-laid _ _ _ _ new (c .hour) k r g
           (record {
             accepted =
-                crowd-left
+                over-limit-left
                 ∙ unless-kept (leb (wouldRun (units supply) (viewOf day .running)) mostRunning) 22 (le-leb (wouldRun (units supply) (viewOf day .running)) mostRunning (omega (arith, counted)));
             at-hour = refl;
             laid = laid;
             ready = ready;
           })
 
--- schedules, for a market that is filed
+-- schedules, for a market that passed
 module _
     (day : Day) (c : ConstraintRow) (supply : List SupplyRow) (waiting : Option Refusal) (h : List ℕ) (new : List ℕ) (r : Deciding)
   where
@@ -151,30 +151,30 @@ module _
 
     pub schedules-decided :
         firstOf (besideRefusals (waiting ∷ []) (c .hour) (units supply) h) ≡ none → (rows : List ScheduleRow) → rows ≡ schedulesOf h →
-        DecidesRows day c supply rows new r → DecidesMarket day c supply waiting h new r
+        DecidesFromRows day c supply rows new r → DecidesMarket day c supply waiting h new r
     schedules-decided ok rows is decides =
         rw (first-of-rest (besideRefusals (waiting ∷ []) (c .hour) (units supply) h) (rowsRefusals (viewOf day) c supply (schedulesOf h)) ok)
         (rw is at decides)
 
 -- all files
 module _ (day : Day) (f : Files) (new : List ℕ) (r : Deciding) where
-  pub ill-formed : dayFormed (viewOf day) ≡ false → r ≡ Refused (stateRefused 24) → DecidesStudy day f new r
+  pub ill-formed : dayFormed (viewOf day) ≡ false → r ≡ Refused (bareRefusal 24) → DecidesStudy day f new r
   unfolding decisionRefusal decisionRefusals
-  ill-formed e g = decides-refused _ _ _ _ new (stateRefused 24) r (first-of-here _ _ _ (unless-broken (dayFormed (viewOf day)) 24 e)) g
+  ill-formed e g = decides-refused _ _ _ _ new (bareRefusal 24) r (first-of-here _ _ _ (unless-broken (dayFormed (viewOf day)) 24 e)) g
 
   module _ (formed : dayFormed (viewOf day) ≡ true) where
-    pub market-refused : (e : Refusal) → filingRefusal f ≡ some e → r ≡ Refused e → DecidesStudy day f new r
-    unfolding decisionRefusal decisionRefusals filingRefusal
+    pub market-refused : (e : Refusal) → checkRefusal f ≡ some e → r ≡ Refused e → DecidesStudy day f new r
+    unfolding decisionRefusal decisionRefusals checkRefusal
     market-refused e is g =
         decides-refused _ _ _ _ new e r
-        (first-of-later _ _ (unless-kept (dayFormed (viewOf day)) 24 formed) ∙ first-of-part (filingRefusals f) _ e is)
+        (first-of-later _ _ (unless-kept (dayFormed (viewOf day)) 24 formed) ∙ first-of-part (checkRefusals f) _ e is)
         g
 
     pub market-decided :
         firstOf (marketRefusals (f .constraint) (f .supply)) ≡ none → (c : ConstraintRow) → c ≡ constraintOf (f .constraint) →
         (supply : List SupplyRow) → supply ≡ supplyOf (f .supply) → DecidesGroups day c supply (f .schedules) (f .parents) new r →
         DecidesStudy day f new r
-    unfolding decisionRefusal decisionRefusals filingRefusals studyRows groupsOf
+    unfolding decisionRefusal decisionRefusals checkRefusals studyRows groupsOf
     market-decided ok c constraint supply is decides =
         rw (
           first-of-later _ _ (unless-kept (dayFormed (viewOf day)) 24 formed),

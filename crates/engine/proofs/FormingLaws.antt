@@ -5,8 +5,8 @@ use mathlib.Core.Bool.{Bool, true, false, _&&_}
 use lib.Dec.{leb}
 use lib.ListN.{length}
 use Rattle.base.proofs.Tests.{and-snd}
-use Rattle.judge.specs.Day.{DayView, mostRunning, hourInRange, risingInRange, dayFormed}
-use Rattle.running.specs.Forming.{unitsFormed}
+use Rattle.outcome.specs.Day.{DayView, mostRunning, hourInRange, risingInRange, dayFormed}
+use Rattle.running.specs.promises.Forming.{unitsFormed}
 use Rattle.running.specs.View.{unitsOf}
 use Rattle.running.proofs.FormingLaws.{formed-few}
 use Rattle.engine.specs.View.{viewOf}

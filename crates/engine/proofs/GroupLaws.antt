@@ -1,5 +1,5 @@
--- From a market decided by groups to the study of the supply file as it was filed: cells by groups are such as deciding asks for,
--- refusals are the same, and rows show the filed suppliers. Assumes nothing.
+-- From a market decided by groups to the study of the supply file as it was written: cells by groups are such as deciding asks for,
+-- refusals are the same, and rows show the suppliers of the supply file. Assumes nothing.
 use Prim.Native.Nat.{ℕ, _≤_}
 use mathlib.Core.Path.{_≡_, refl, sym, _∙_, ap}
 use mathlib.Core.Logic.{⊎-elim}
@@ -12,35 +12,36 @@ use Rattle.base.proofs.Elements.{all-mem, all-of}
 use Rattle.base.proofs.FirstLaws.{first-of-between, first-of-parts-none}
 use Rattle.base.proofs.Searches.{first-of-none}
 use Rattle.base.proofs.Tests.{eq-or-ne}
-use Rattle.tables.specs.Ranges.{PermittedSupply}
-use Rattle.tables.specs.Rows.{SupplyRow, supplyRows}
+use Rattle.tables.specs.promises.Ranges.{PermittedSupply}
+use Rattle.tables.specs.Rows.{SupplyRow, AnswerRow}
 use Rattle.tables.specs.declared.constraint.ConstraintRow.{ConstraintRow}
 use Rattle.tables.specs.declared.files.File.the-variants.{Parents}
 use Rattle.tables.specs.declared.files.Reading.{Reading}
 use Rattle.tables.specs.declared.files.Refusal.{Refusal}
-use Rattle.cells.specs.Views.{AnswerRow, answerRows}
+use Rattle.tables.specs.promises.FlatRows.{supplyRows}
+use Rattle.cells.specs.promises.Views.{answerRows}
 use Rattle.cells.proofs.RowViews.{answer-length}
 use Rattle.supply.specs.Supply.{units}
 use Rattle.affiliates.specs.Affiliates.{grouped}
-use Rattle.affiliates.specs.Laying.{SupplierCells}
+use Rattle.affiliates.specs.promises.Laying.{SupplierCells}
 use Rattle.affiliates.proofs.GroupLaws.{grouped-units, grouped-permitted, groups-few}
 use Rattle.market.specs.Parties.{party, parties}
-use Rattle.filing.specs.Alone.{rowsUnless}
-use Rattle.filing.specs.Filing.{schedulesOf, parentsOf, aloneRefusals, schedulesRefusals, unitsRefusals, besideRefusals}
-use Rattle.filing.specs.Parents.{ParentsFiled}
-use Rattle.filing.specs.Rules.{refusalIn}
-use Rattle.filing.proofs.KeptLaws.{parents-kept}
-use Rattle.filing.proofs.ParentsLaws.{no-groups}
-use Rattle.answer.proofs.StudyLetters.{decided-lettered}
-use Rattle.decision.specs.Naming.{supplierOf, allNamed, RowsNamed}
-use Rattle.decision.specs.Standing.{MarketCells}
-use Rattle.decision.specs.Units.{UnitsOf}
+use Rattle.checking.specs.promises.Alone.{rowsUnless}
+use Rattle.checking.specs.Files.{schedulesOf, parentsOf, aloneRefusals, schedulesRefusals, unitsRefusals, besideRefusals}
+use Rattle.checking.specs.promises.Parents.{ParentsChecked}
+use Rattle.checking.specs.promises.Rules.{refusalIn}
+use Rattle.checking.proofs.KeptLaws.{parents-kept}
+use Rattle.checking.proofs.ParentsLaws.{no-groups}
+use Rattle.outcome.proofs.StudyLetters.{decided-lettered}
+use Rattle.decision.specs.promises.Naming.{supplierOf, allNamed, RowsNamed}
+use Rattle.decision.specs.promises.Standing.{MarketCells}
+use Rattle.decision.specs.promises.Units.{UnitsOf}
 use Rattle.decision.proofs.NamingLaws.{named-rows}
-use Rattle.judge.specs.Day.{DayView}
-use Rattle.judge.specs.Decision.{decidedRow, decided, costless}
-use Rattle.judge.specs.Study.{rowsRefusals}
-use Rattle.judge.proofs.RowsToBytes.{shownUnit, rows-units}
-use Rattle.engine.specs.Deciding.{RowsReady, DecidesMarket, DecidesGroups, FiledListed}
+use Rattle.outcome.specs.Day.{DayView}
+use Rattle.outcome.specs.Decision.{decidedRow, decided, noCostSchedule}
+use Rattle.outcome.specs.Study.{rowsRefusals}
+use Rattle.outcome.proofs.RowsToBytes.{shownUnit, rows-units}
+use Rattle.engine.specs.promises.Deciding.{RowsReady, DecidesMarket, DecidesGroups, ShownListed}
 use Rattle.engine.specs.View.{viewOf}
 use Rattle.engine.specs.declared.day.Day.{Day}
 use Rattle.engine.specs.declared.deciding.Deciding.{Deciding}
@@ -51,28 +52,28 @@ waits : (o : Option Refusal) (m : ℕ) → refusalIn (rowsUnless o m) ≡ o
 waits none m = refl
 waits (some x) m = refl
 
--- what filing parents asks of the rows of supply
+-- what checking parents asks of the rows of supply
 pub supplier-cells : (c : ConstraintRow) (n : ℕ) (cells : List ℕ) → MarketCells c n cells → SupplierCells n cells
 supplier-cells c n cells m = record { inside = m .rows .inside; ranged = λ r i. m .rows .permitted r i .supplier }
 
 -- suppliers that are listed, or none
 module _ (p : List ℕ) (k : ℕ) (rows : List SupplyRow) (run : List ℕ) where
-  pub none-listed : length p ≡ 0 → FiledListed p k rows run 0
+  pub none-listed : length p ≡ 0 → ShownListed p k rows run 0
   none-listed e = record { none-listed = λ _. refl; all-listed = λ some-bytes. absurd (some-bytes e) }
 
   pub all-listed :
-      (length p ≡ 0 → ⊥) → take k run ≡ map (supplierOf rows) (units rows) → FiledListed p k rows run k
+      (length p ≡ 0 → ⊥) → take k run ≡ map (supplierOf rows) (units rows) → ShownListed p k rows run k
   all-listed some-bytes listed =
       record { none-listed = λ e. absurd (some-bytes e); all-listed = λ _. (refl, listed) }
 
-  pub listed-few : (r : ℕ) → FiledListed p k rows run r → r ≤ k
+  pub listed-few : (r : ℕ) → ShownListed p k rows run r → r ≤ k
   listed-few r listed =
       ⊎-elim
       (λ (e : length p ≡ 0). omega (arith, listed .none-listed e))
       (λ (e : length p ≡ 0 → ⊥). omega (arith, listed .all-listed e .0))
       (eq-or-ne (length p) 0)
 
-module _ (p : List ℕ) (n : ℕ) (old new : List ℕ) {q : Reading} (filed : ParentsFiled p n old new q) where
+module _ (p : List ℕ) (n : ℕ) (old new : List ℕ) {q : Reading} (checked : ParentsChecked p n old new q) where
   abbrev waiting : Option Refusal
   waiting = firstOf (aloneRefusals Parents p)
 
@@ -81,8 +82,8 @@ module _ (p : List ℕ) (n : ℕ) (old new : List ℕ) {q : Reading} (filed : Pa
   now-has P before after = go waiting refl
     where
       go : (o : Option Refusal) → waiting ≡ o → P (supplyRows n new)
-      go none e = rw (filed .by-groups e) (after e)
-      go (some x) e = rw (filed .as-before x e) before
+      go none e = rw (checked .by-groups e) (after e)
+      go (some x) e = rw (checked .as-before x e) before
 
   pub same-units : units (supplyRows n new) ≡ units (supplyRows n old)
   same-units = now-has (λ (rs : List SupplyRow). units rs ≡ units (supplyRows n old)) refl (λ _. grouped-units (parentsOf p) (supplyRows n old))
@@ -124,7 +125,7 @@ module _ (p : List ℕ) (n : ℕ) (old new : List ℕ) {q : Reading} (filed : Pa
   -- the same is refused
   module _ (d : DayView) (c : ConstraintRow) (h : List ℕ) where
     same-rows-refusals : rowsRefusals d c (supplyRows n new) (schedulesOf h) ≡ rowsRefusals d c (supplyRows n old) (schedulesOf h)
-    unfolding rowsRefusals costless
+    unfolding rowsRefusals noCostSchedule
     same-rows-refusals = rw same-units
 
     same-refusal :
@@ -135,7 +136,7 @@ module _ (p : List ℕ) (n : ℕ) (old new : List ℕ) {q : Reading} (filed : Pa
         let us = units (supplyRows n old) in
         let lacks = unitsRefusals (c .hour) us (schedulesOf h) in
         let rest = rowsRefusals d c (supplyRows n old) (schedulesOf h) in
-        let asked : refusalIn q ≡ waiting = rw (filed .answers) (waits waiting (length (parentsOf p))) in
+        let asked : refusalIn q ≡ waiting = rw (checked .answers) (waits waiting (length (parentsOf p))) in
         rw (
           same-units,
           same-rows-refusals,
@@ -167,7 +168,7 @@ module _ (p : List ℕ) (n : ℕ) (old new : List ℕ) {q : Reading} (filed : Pa
       abbrev groups : List SupplyRow
       groups = grouped (parentsOf p) (supplyRows n old)
 
-      -- whatever stands in the run of rows then, as long as it stands for the same decision with the filed suppliers
+      -- whatever stands in the run of rows then, as long as it stands for the same decision with the suppliers of the supply file
       by-shown :
           (shown : List ℕ) →
           ((j : ℕ) → supplyRows n new ≡ groups → answerRows j rows ≡ decidedBy (supplyRows n new) (supplyRows n new) → RowsReady (viewOf day .running) j rows →
@@ -180,7 +181,7 @@ module _ (p : List ℕ) (n : ℕ) (old new : List ℕ) {q : Reading} (filed : Pa
             decides = λ i j g.
                 let laid = decides .decides i j g in
                 let accepted = sym (same-refusal (viewOf day) c h) ∙ laid .accepted in
-                let by-groups = filed .by-groups (none-waits (viewOf day) c h accepted) in
+                let by-groups = checked .by-groups (none-waits (viewOf day) c h accepted) in
                 let (is, long) = stands j by-groups (laid .laid) (laid .ready) in
                 record {
                   accepted = accepted;
@@ -240,12 +241,12 @@ module _ (p : List ℕ) (n : ℕ) (old new : List ℕ) {q : Reading} (filed : Pa
             ))
 
         pub groups-decided :
-            (count : ℕ) → FiledListed p k (supplyRows n old) names count → RowsNamed names count rows shown →
+            (count : ℕ) → ShownListed p k (supplyRows n old) names count → RowsNamed names count rows shown →
             DecidesGroups day c (supplyRows n old) h p shown r
         groups-decided count listed are =
             ⊎-elim
             (λ (empty : length p ≡ 0). rw (are .none (listed .none-listed empty)) (decided-alone empty))
             (λ (some-bytes : length p ≡ 0 → ⊥).
-            let (all, filed-ones) = listed .all-listed some-bytes in
-            decided-named filed-ones (rw all at (are .rows)))
+            let (all, shown-ones) = listed .all-listed some-bytes in
+            decided-named shown-ones (rw all at (are .rows)))
             (eq-or-ne (length p) 0)

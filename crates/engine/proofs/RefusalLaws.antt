@@ -3,9 +3,9 @@ use Prim.Native.Nat.{ℕ}
 use mathlib.Core.Path.{_≡_}
 use mathlib.Core.Bool.{Bool, true, false}
 use mathlib.Core.Option.{none, some}
-use Rattle.judge.specs.Day.{stateRefused, unless}
+use Rattle.tables.specs.Refusals.{bareRefusal, unless}
 
-pub unless-broken : (kept : Bool) (n : ℕ) → kept ≡ false → unless kept n ≡ some (stateRefused n)
+pub unless-broken : (kept : Bool) (n : ℕ) → kept ≡ false → unless kept n ≡ some (bareRefusal n)
 unfolding unless
 unless-broken kept n e = simp e
 

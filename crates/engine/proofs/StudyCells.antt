@@ -1,4 +1,4 @@
--- From files that are filed, and the cells that were laid down, to what deciding their rows asks. Assumes nothing.
+-- From files that passed, and the cells that were laid down, to what deciding their rows asks. Assumes nothing.
 use Prim.Native.Nat.{ℕ, _≤_, _<_}
 use mathlib.Core.Path.{_≡_, refl, sym, _∙_}
 use mathlib.Core.List.{List, [], _∷_}
@@ -7,53 +7,54 @@ use native.Mathlib.Omega.{arith}
 use lib.ListN.{length}
 use Rattle.base.specs.Search.{firstOf}
 use Rattle.base.proofs.Elements.{all-mem}
-use Rattle.tables.specs.Rows.{SupplyRow, supplyRows, scheduleRows}
+use Rattle.tables.specs.Rows.{SupplyRow}
 use Rattle.tables.specs.declared.files.File.the-variants.{Supply, Schedules}
 use Rattle.tables.specs.declared.files.Reading.{Reading}
 use Rattle.tables.specs.declared.files.Reading.the-variants.{Rows as RowsRead, Refused as NotRead}
 use Rattle.tables.specs.declared.files.Refusal.{Refusal}
-use Rattle.links.specs.Links.{RowsLinked}
+use Rattle.links.specs.promises.Links.{RowsLinked}
 use Rattle.supply.specs.Supply.{mostUnits, units, suppliers}
 use Rattle.supply.proofs.UnitLaws.{units-rising}
 use Rattle.market.specs.Parties.{party, parties}
-use Rattle.filing.specs.Alone.{SchedulesFiled}
-use Rattle.filing.specs.Filed.{MarketFiled}
-use Rattle.filing.specs.Filing.{constraintOf, supplyOf, schedulesOf, aloneRefusals, marketRefusals, schedulesRefusals, besideRefusals}
-use Rattle.filing.specs.declared.market.Market.{Market}
-use Rattle.filing.specs.declared.market.MarketFiling.{MarketFiling}
-use Rattle.filing.specs.declared.market.MarketFiling.the-variants.{Filed}
-use Rattle.filing.proofs.FiledLaws.{told, market-kept}
-use Rattle.filing.proofs.RuleLaws.{rows-answered, refused-answered}
+use Rattle.checking.specs.promises.Alone.{SchedulesChecked}
+use Rattle.checking.specs.promises.Market.{MarketChecked}
+use Rattle.checking.specs.Files.{constraintOf, supplyOf, schedulesOf, aloneRefusals, marketRefusals, schedulesRefusals, besideRefusals}
+use Rattle.checking.specs.declared.market.Market.{Market}
+use Rattle.checking.specs.declared.market.MarketCheck.{MarketCheck}
+use Rattle.checking.specs.declared.market.MarketCheck.the-variants.{Passed}
+use Rattle.checking.proofs.MarketLaws.{told, market-kept}
+use Rattle.checking.proofs.RuleLaws.{rows-answered, refused-answered}
 use Rattle.base.proofs.Searches.{first-of-none}
 use Rattle.tables.specs.Reading.{refusal}
-use Rattle.filing.proofs.FilingLaws.{supply-count, schedules-count}
-use Rattle.filing.proofs.KeptLaws.{constraint-kept, supply-kept, schedules-kept, units-few, suppliers-few}
+use Rattle.checking.proofs.FilesLaws.{supply-count, schedules-count}
+use Rattle.checking.proofs.KeptLaws.{constraint-kept, supply-kept, schedules-kept, units-few, suppliers-few}
 use Rattle.tables.proofs.Accepted.{accepted}
-use Rattle.judge.proofs.Sound.{some-units}
-use Rattle.commitment.specs.Ranges.{ScheduleCells}
-use Rattle.decision.specs.Standing.{MarketCells}
-use Rattle.decision.specs.Units.{UnitsOf}
+use Rattle.tables.specs.promises.FlatRows.{supplyRows, scheduleRows}
+use Rattle.outcome.proofs.Sound.{some-units}
+use Rattle.choice.specs.promises.Ranges.{ScheduleCells}
+use Rattle.decision.specs.promises.Standing.{MarketCells}
+use Rattle.decision.specs.promises.Units.{UnitsOf}
 
 -- as many parties as suppliers, since a row counts for its supplier
 pub parties-suppliers : (rows : List SupplyRow) → parties rows ≡ suppliers rows
 unfolding parties suppliers party
 parties-suppliers rows = refl
 
--- the cells of a market that is filed
-module _ (c s supply us : List ℕ) {q : MarketFiling} (filed : MarketFiled c s supply us q) (m : Market) (e : q ≡ Filed m) where
+-- the cells of a market that passed
+module _ (c s supply us : List ℕ) {q : MarketCheck} (checked : MarketChecked c s supply us q) (m : Market) (e : q ≡ Passed m) where
   pub market-none : firstOf (marketRefusals c s) ≡ none
-  market-none = told c s supply us filed m e .0
+  market-none = told c s supply us checked m e .0
 
   pub market-constraint : m .constraint ≡ constraintOf c
-  market-constraint = rw (told c s supply us filed m e .1)
+  market-constraint = rw (told c s supply us checked m e .1)
 
   pub market-rows : supplyRows (m .rows) supply ≡ supplyOf s
-  market-rows = rw (told c s supply us filed m e .1) (filed .kept market-none .rows)
+  market-rows = rw (told c s supply us checked m e .1) (checked .kept market-none .rows)
 
   pub market-cells : 1280 ≤ length supply → MarketCells (m .constraint) (m .rows) supply
   market-cells room =
-      let read = market-kept c s supply us filed m e in
-      let few : m .rows ≤ 256 = rw (told c s supply us filed m e .1, supply-count s) (accepted Supply s (read .1) .most) in
+      let read = market-kept c s supply us checked m e in
+      let few : m .rows ≤ 256 = rw (told c s supply us checked m e .1, supply-count s) (accepted Supply s (read .1) .most) in
       record {
         permitted = rw market-constraint (constraint-kept c (read .0));
         rows =
@@ -67,37 +68,37 @@ module _ (c s supply us : List ℕ) {q : MarketFiling} (filed : MarketFiled c s 
 
   pub market-units : mostUnits < length us → UnitsOf (m .units) (supplyRows (m .rows) supply) us
   market-units room =
-      let read = market-kept c s supply us filed m e in
+      let read = market-kept c s supply us checked m e in
       let few = units-few (supplyOf s) (read .2) in
-      rw (market-rows, told c s supply us filed m e .1)
+      rw (market-rows, told c s supply us checked m e .1)
       (record {
         few = few;
         there = omega arith;
         counted = refl;
-        listed = filed .kept market-none .listed;
+        listed = checked .kept market-none .listed;
         rising = units-rising (some-units (supply-kept s (read .1)));
       })
 
--- the cells of schedules that are filed
+-- the cells of schedules that passed
 module _
     (w : Option Refusal) (hour : ℕ) (us h cells links : List ℕ) {p : Reading}
-    (filed : SchedulesFiled (besideRefusals (w ∷ []) hour us h) h cells links p)
+    (checked : SchedulesChecked (besideRefusals (w ∷ []) hour us h) h cells links p)
   where
     pub schedules-refuse : (x : Refusal) → p ≡ NotRead x → firstOf (besideRefusals (w ∷ []) hour us h) ≡ some x
-    schedules-refuse x f = refused-answered _ (length (schedulesOf h)) (sym (filed .answers) ∙ f)
+    schedules-refuse x f = refused-answered _ (length (schedulesOf h)) (sym (checked .answers) ∙ f)
 
     module _ (n : ℕ) (f : p ≡ RowsRead n) where
       rows-told : (firstOf (besideRefusals (w ∷ []) hour us h) ≡ none) × (n ≡ length (schedulesOf h))
-      rows-told = rows-answered _ (length (schedulesOf h)) (sym (filed .answers) ∙ f)
+      rows-told = rows-answered _ (length (schedulesOf h)) (sym (checked .answers) ∙ f)
 
       pub schedules-none : firstOf (besideRefusals (w ∷ []) hour us h) ≡ none
       schedules-none = rows-told .0
 
       pub schedules-rows : scheduleRows n cells ≡ schedulesOf h
-      schedules-rows = rw (rows-told .1) (filed .kept schedules-none .rows)
+      schedules-rows = rw (rows-told .1) (checked .kept schedules-none .rows)
 
       pub schedules-linked : RowsLinked cells n links
-      schedules-linked = rw (rows-told .1) (filed .kept schedules-none .linked)
+      schedules-linked = rw (rows-told .1) (checked .kept schedules-none .linked)
 
       pub schedules-cells : 9216 ≤ length cells → ScheduleCells n cells
       unfolding besideRefusals schedulesRefusals aloneRefusals

@@ -1,4 +1,4 @@
-pub mod Deciding
 pub mod Releasing
 pub mod Studying
 pub mod View
+pub mod promises

@@ -3,7 +3,7 @@
 -- that it is.
 use Prim.Native.Nat.{ℕ}
 use mathlib.Core.Option.{Option, none, some}
-use Rattle.judge.specs.Day.{DayView}
+use Rattle.outcome.specs.Day.{DayView}
 use Rattle.running.specs.View.{unitsOf}
 use Rattle.engine.specs.declared.day.Day.{Day}
 use Rattle.engine.specs.declared.day.LastHour.{LastHour}

@@ -1,7 +1,7 @@
 // What is asked of a day: whether it is well-formed, and whether an hour comes too early for it.
 // Assumes nothing of it.
 ghost use mathlib.Core.Path.{_≡_};
-ghost use Rattle.judge.specs.Day.{hourInRange, dayFormed, earlier};
+ghost use Rattle.outcome.specs.Day.{hourInRange, dayFormed, earlier};
 ghost use Rattle.engine.specs.View.{hourOf, viewOf};
 use crate::day::Day;
 use crate::day::LastHour;

@@ -1,7 +1,7 @@
 // The day: the hour of the last accepted study and the running units, by value. It goes into a call
 // and comes back with the answer. Assumes nothing; whether a day is well-formed is asked of it.
 ghost use mathlib.Core.Path.{_≡_};
-ghost use Rattle.judge.specs.Day.{freshDay, mostRunning};
+ghost use Rattle.outcome.specs.Day.{freshDay, mostRunning};
 ghost use Rattle.engine.specs.View.{viewOf};
 use running::Units;
 

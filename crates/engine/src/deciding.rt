@@ -5,39 +5,39 @@ ghost use mathlib.Core.Path.{_≡_};
 ghost use mathlib.Core.Bool.{true};
 ghost use Prim.Native.Nat.{_*_, _≤_};
 ghost use lib.ListN.{length};
-ghost use Rattle.tables.specs.Reading.{refused};
-ghost use Rattle.tables.specs.Rows.{supplyRows, scheduleRows};
 ghost use Rattle.tables.specs.declared.files.File.the-variants.{Schedules};
-ghost use Rattle.cells.specs.Views.{answerWidth};
-ghost use Rattle.links.specs.Links.{RowsLinked};
+ghost use Rattle.tables.specs.Refusals.{refused, bareRefusal};
+ghost use Rattle.tables.specs.promises.FlatRows.{supplyRows, scheduleRows};
+ghost use Rattle.cells.specs.promises.Views.{answerWidth};
+ghost use Rattle.links.specs.promises.Links.{RowsLinked};
 ghost use Rattle.supply.specs.Supply.{mostUnits};
-ghost use Rattle.filing.specs.Filing.{files};
-ghost use Rattle.filing.specs.Rules.{refusalIn};
-ghost use Rattle.commitment.specs.Ranges.{ScheduleCells};
-ghost use Rattle.decision.specs.Standing.{MarketCells};
-ghost use Rattle.decision.specs.Units.{UnitsOf};
-ghost use Rattle.judge.specs.Day.{dayFormed, stateRefused};
-ghost use Rattle.running.specs.Forming.{unitsFormed};
+ghost use Rattle.checking.specs.Files.{files};
+ghost use Rattle.checking.specs.promises.Rules.{refusalIn};
+ghost use Rattle.choice.specs.promises.Ranges.{ScheduleCells};
+ghost use Rattle.decision.specs.promises.Standing.{MarketCells};
+ghost use Rattle.decision.specs.promises.Units.{UnitsOf};
+ghost use Rattle.outcome.specs.Day.{dayFormed};
+ghost use Rattle.running.specs.promises.Forming.{unitsFormed};
 ghost use Rattle.running.specs.View.{unitsOf};
 ghost use Rattle.engine.specs.View.{viewOf};
-ghost use Rattle.engine.specs.Deciding.{DecidesStudy, DecidesGroups, DecidesMarket, DecidesRows, FiledListed};
+ghost use Rattle.engine.specs.promises.Deciding.{DecidesStudy, DecidesGroups, DecidesMarket, DecidesFromRows, ShownListed};
 use crate::day::Day;
 use crate::refusals::EARLIER_HOUR;
 use crate::refusals::ILL_FORMED;
 use crate::refusals::NO_COST_SCHEDULE;
 use crate::refusals::TOO_MANY_RUNNING;
 use cells::Sizes;
+use checking::Market;
+use checking::MarketCheck;
+use checking::SCHEDULE_CELLS;
+use checking::SUPPLY_CELLS;
+use checking::UNITS_LENGTH;
+use checking::check_market;
+use checking::check_parents;
+use checking::check_schedules;
 use decision::Decided;
 use decision::list_suppliers;
 use decision::name_suppliers;
-use filing::Market;
-use filing::MarketFiling;
-use filing::SCHEDULE_CELLS;
-use filing::SUPPLY_CELLS;
-use filing::UNITS;
-use filing::file_market;
-use filing::file_parents;
-use filing::file_schedules;
 use tables::ConstraintRow;
 use tables::File;
 use tables::Reading;
@@ -83,17 +83,17 @@ impl Day {
         ensures { λ r. ⌜ DecidesStudy self (files (now (constraint .entry)) (now (supply .entry)) (now (schedules .entry)) (now (parents .entry))) (now (rows .exit)) r ⌝ }
     {
         let mut supply_cells = [0u64; SUPPLY_CELLS];
-        let mut units = [0u64; UNITS];
-        let filing = file_market(constraint, supply, &mut supply_cells, &mut units);
-        match filing {
-            MarketFiling::Refused(refusal) => Deciding::Refused(refusal),
-            MarketFiling::Filed(market) => {
+        let mut units = [0u64; UNITS_LENGTH];
+        let check = check_market(constraint, supply, &mut supply_cells, &mut units);
+        match check {
+            MarketCheck::Refused(refusal) => Deciding::Refused(refusal),
+            MarketCheck::Passed(market) => {
                 self.decide_groups(market, &mut supply_cells, &units, schedules, parents, rows)
             }
         }
     }
 
-    // Then the market that is filed, by the groups of parents where there are any. The answer shows the
+    // Then the market that passed, by the groups of parents where there are any. The answer shows the
     // suppliers of the supply file.
     fn decide_groups(
         self,
@@ -110,15 +110,15 @@ impl Day {
         requires { ⌜ mostUnits * answerWidth ≤ length (now rows) ⌝ }
         ensures { λ r. ⌜ DecidesGroups self (market .constraint) (supplyRows (market .rows) (now (supply .entry))) (now (schedules .entry)) (now (parents .entry)) (now (rows .exit)) r ⌝ }
     {
-        let mut suppliers = [0u64; UNITS];
-        let count = list_filed(parents, market, supply, units, &mut suppliers);
-        let reading = file_parents(parents, supply, market.rows);
+        let mut suppliers = [0u64; UNITS_LENGTH];
+        let count = list_shown(parents, market, supply, units, &mut suppliers);
+        let reading = check_parents(parents, supply, market.rows);
         let deciding = self.decide_market(market, reading, supply, units, schedules, rows);
         name_suppliers(&suppliers, count, rows);
         deciding
     }
 
-    // Then schedules, for the hour and the units of a market that is filed. What reading parents answered
+    // Then schedules, for the hour and the units of a market that passed. What reading parents answered
     // waits for its turn.
     fn decide_market(
         self,
@@ -137,7 +137,7 @@ impl Day {
     {
         let mut cells = [0u64; SCHEDULE_CELLS];
         let mut links = [0u16; links::LENGTH];
-        let reading = file_schedules(market, parents, schedules, units, &mut cells, &mut links);
+        let reading = check_schedules(market, parents, schedules, units, &mut cells, &mut links);
         match reading {
             Reading::Refused(refusal) => Deciding::Refused(refusal),
             Reading::Rows(count) => {
@@ -169,7 +169,7 @@ impl Day {
         requires { ⌜ ScheduleCells (sizes .schedules) (now schedules) ⌝ }
         requires { ⌜ RowsLinked (now schedules) (sizes .schedules) (now links) ⌝ }
         requires { ⌜ mostUnits * answerWidth ≤ length (now rows) ⌝ }
-        ensures { λ r. ⌜ DecidesRows self constraint (supplyRows (sizes .supply) (now (supply .entry))) (scheduleRows (sizes .schedules) (now (schedules .entry))) (now (rows .exit)) r ⌝ }
+        ensures { λ r. ⌜ DecidesFromRows self constraint (supplyRows (sizes .supply) (now (supply .entry))) (scheduleRows (sizes .schedules) (now (schedules .entry))) (now (rows .exit)) r ⌝ }
     {
         if self.is_earlier(constraint.hour) {
             return refused_by_state(EARLIER_HOUR);
@@ -186,7 +186,7 @@ impl Day {
             rows,
         );
         match decided {
-            Decided::Costless(unit) => refused_at(unit),
+            Decided::NoCostSchedule(unit) => refused_at(unit),
             Decided::All => {
                 if running.would_run(units, sizes.units) > Day::UNITS {
                     refused_by_state(TOO_MANY_RUNNING)
@@ -199,8 +199,8 @@ impl Day {
 }
 
 // Lists the supplier of each unit, and answers how many are listed; none where there are no parents,
-// since rows show the filed suppliers then.
-fn list_filed(
+// since rows show the suppliers of the supply file then.
+fn list_shown(
     parents: &[u8],
     market: Market,
     supply: &[u64],
@@ -210,7 +210,7 @@ fn list_filed(
     requires { ⌜ MarketCells (market .constraint) (market .rows) (now supply) ⌝ }
     requires { ⌜ UnitsOf (market .units) (supplyRows (market .rows) (now supply)) (now units) ⌝ }
     requires { ⌜ mostUnits ≤ length (now suppliers) ⌝ }
-    ensures { λ r. ⌜ FiledListed (now (parents .entry)) (market .units) (supplyRows (market .rows) (now (supply .entry))) (now (suppliers .exit)) r ⌝ }
+    ensures { λ r. ⌜ ShownListed (now (parents .entry)) (market .units) (supplyRows (market .rows) (now (supply .entry))) (now (suppliers .exit)) r ⌝ }
 {
     if parents.len() == 0 {
         return 0;
@@ -233,7 +233,7 @@ fn refused_at(unit: u64) -> Deciding
 
 // A refusal that names no file.
 fn refused_by_state(number: u64) -> Deciding
-    ensures { λ r. ⌜ r ≡ Deciding.Refused (stateRefused number) ⌝ }
+    ensures { λ r. ⌜ r ≡ Deciding.Refused (bareRefusal number) ⌝ }
 {
     Deciding::Refused(Refusal {
         number,

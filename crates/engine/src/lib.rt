@@ -10,7 +10,5 @@ pub use day::Day;
 pub use day::LastHour;
 pub use releasing::Release;
 pub use releasing::Released;
-pub use running::Running;
-pub use running::Units;
 pub use studying::Studied;
 pub use studying::Study;

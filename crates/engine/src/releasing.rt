@@ -1,7 +1,8 @@
 // Release: a unit is taken out of the day, and nothing else changes. Assumes nothing of the day or of
 // the unit's number.
 ghost use mathlib.Core.Path.{_≡_};
-ghost use Rattle.engine.specs.Releasing.{refusing, Releases};
+ghost use Rattle.engine.specs.Releasing.{Releases};
+ghost use Rattle.engine.specs.promises.Answering.{releaseRefused};
 use crate::day::Day;
 use crate::refusals::ILL_FORMED;
 use crate::refusals::NOT_RUNNING;
@@ -47,7 +48,7 @@ impl Day {
 
     // The very day, with a refusal that names no file.
     fn refused(self, number: u64) -> Released
-        ensures { λ r. ⌜ r ≡ refusing self number ⌝ }
+        ensures { λ r. ⌜ r ≡ releaseRefused self number ⌝ }
     {
         let refusal = Refusal {
             number,

@@ -3,12 +3,13 @@
 // passed. Assumes nothing of the files, the day or the buffer.
 ghost use mathlib.Core.Path.{_≡_};
 ghost use mathlib.Core.Bool.{true};
-ghost use Rattle.cells.specs.Views.{answerRows};
-ghost use Rattle.filing.specs.Filing.{files};
-ghost use Rattle.running.specs.Forming.{unitsFormed};
+ghost use Rattle.cells.specs.promises.Views.{answerRows};
+ghost use Rattle.checking.specs.Files.{files};
+ghost use Rattle.running.specs.promises.Forming.{unitsFormed};
 ghost use Rattle.running.specs.View.{unitsOf};
-ghost use Rattle.engine.specs.Deciding.{RowsReady};
-ghost use Rattle.engine.specs.Studying.{Studies, AnswersRight, Answers, refusing};
+ghost use Rattle.engine.specs.promises.Deciding.{RowsReady};
+ghost use Rattle.engine.specs.Studying.{Studies, AnswersRight};
+ghost use Rattle.engine.specs.promises.Answering.{studyRefused, Answers};
 use crate::day::Day;
 use crate::day::LastHour;
 use crate::deciding::Deciding;
@@ -77,7 +78,7 @@ impl Day {
 
     // The very day, with a refusal.
     fn refuse_study(self, refusal: Refusal) -> Studied
-        ensures { λ r. ⌜ r ≡ refusing self refusal ⌝ }
+        ensures { λ r. ⌜ r ≡ studyRefused self refusal ⌝ }
     {
         Studied {
             day: self,

@@ -12,7 +12,7 @@ use lib.Seq.{getD-set-same, getD-set-other, lt-length-set, take-at, drop-at, len
 use borrow.Author.Tests.{eq-eqb, ne-eqb, eqb-true}
 use Rattle.base.proofs.Lists.{rest-lent, rest-back}
 use Rattle.base.proofs.Tests.{either, eq-or-ne}
-use Rattle.links.specs.Links.{lastSame, mostLinked, Unlinked, rowLinked, Linked, LinkedTo, anyBefore, Leads, Along, unitKeys, scheduleKeys, byUnit, bySchedule, unitKey, scheduleKey, unitLinks, linksLength, RowsLinked}
+use Rattle.links.specs.promises.Links.{lastSame, mostLinked, Unlinked, rowLinked, Linked, LinkedTo, anyBefore, LinksLead, Along, unitKeys, scheduleKeys, byUnit, bySchedule, unitKey, scheduleKey, unitLinks, linksLength, RowsLinked}
 
 -- a run of zeros has no row
 pub unlinked : (n i : ℕ) → getD {A = ℕ} (replicate n 0) i 0 ≡ 0
@@ -152,7 +152,7 @@ module _ (key : ℕ → ℕ) where
 
   leads-from :
       (x k : ℕ) (links : List ℕ) (left : ℕ) → ((j : ℕ) → j < k → getD links j 0 ≡ lastSame key (key j) j) → k ≤ length links →
-      left ≡ lastSame key x k → Leads key x links left
+      left ≡ lastSame key x k → LinksLead key x links left
   leads-from x k links left linked room is =
       let upto : left ≤ k = rw is (last-upto x k) in
       record {
@@ -161,14 +161,14 @@ module _ (key : ℕ → ℕ) where
         on = λ (j : ℕ) (e : left ≡ suc j). last-has x k j (sym is ∙ e);
       }
 
-  module _ (x : ℕ) (links : List ℕ) (left : ℕ) (l : Leads key x links left) (h : 0 < left) where
+  module _ (x : ℕ) (links : List ℕ) (left : ℕ) (l : LinksLead key x links left) (h : 0 < left) where
     leads-last : getD links (left - 1) 0 ≡ lastSame key x (left - 1)
     leads-last = l .linked (left - 1) (omega arith) ∙ rw (l .on (left - 1) (omega arith))
 
     leads-less : getD links (left - 1) 0 < left
     leads-less = omega (arith, rw (← leads-last) at (last-upto x (left - 1)))
 
-    leads-next : Leads key x links (getD links (left - 1) 0)
+    leads-next : LinksLead key x links (getD links (left - 1) 0)
     leads-next =
         leads-from x (left - 1) links (getD links (left - 1) 0)
         (λ (j : ℕ) (i : j < left - 1). l .linked j (omega arith))
@@ -319,7 +319,7 @@ along-key {key} {keys} {n} {links} p x l h alike =
     along-from key p x alike n links (getD links (mostLinked + x) 0) (l .by-row) (omega (arith, l .few, l .room)) (l .by-key x h)
 
 leads-key :
-    {key : ℕ → ℕ} {keys n : ℕ} {links : List ℕ} (x : ℕ) → Linked key keys n links → x < keys → Leads key x links (getD links (mostLinked + x) 0)
+    {key : ℕ → ℕ} {keys n : ℕ} {links : List ℕ} (x : ℕ) → Linked key keys n links → x < keys → LinksLead key x links (getD links (mostLinked + x) 0)
 leads-key {key} {keys} {n} {links} x l h =
     leads-from key x n links (getD links (mostLinked + x) 0) (l .by-row) (omega (arith, l .few, l .room)) (l .by-key x h)
 
@@ -382,7 +382,7 @@ pub record Walk {S : Type 0} (step : S → ℕ → S) (start : S) (k : ℕ) (lin
   pub key : ℕ → ℕ
   pub wanted : ℕ
   pub idle : (s : S) (j : ℕ) → (key j ≡ wanted → ⊥) → step s j ≡ s
-  pub leads : Leads key wanted links left
+  pub leads : LinksLead key wanted links left
   pub upto : left ≤ k
   pub rest : down step start k ≡ down step state left
 

@@ -8,7 +8,7 @@ ghost use mathlib.Core.Path.{_≡_};
 ghost use Prim.Native.Nat.{_+_, _≤_, _<_};
 ghost use mathlib.Core.List.{_++_};
 ghost use lib.ListN.{length, getD, take, drop};
-ghost use Rattle.links.specs.Links.{mostLinked, rowLinked, unitKeys, scheduleKeys, byUnit, bySchedule, unitLinks, linksLength};
+ghost use Rattle.links.specs.promises.Links.{mostLinked, rowLinked, unitKeys, scheduleKeys, byUnit, bySchedule, unitLinks, linksLength};
 
 // The most rows, and how many keys there are.
 pub const ROWS: usize = 1024;

@@ -3,9 +3,9 @@ use Prim.Native.Nat.{ℕ, zero, suc, _^_, _≤_}
 use mathlib.Core.List.{List, [], _∷_, map, List·Memᴰ}
 use native.Mathlib.Omega.{arith}
 use lib.ListN.{length, getD, length-map}
-use Rattle.tables.specs.Ranges.{PermittedSupply}
+use Rattle.tables.specs.promises.Ranges.{PermittedSupply}
 use Rattle.tables.specs.Rows.{SupplyRow}
-use Rattle.pivotal.specs.Tally.{Limited}
+use Rattle.pivotal.specs.promises.Tally.{Limited}
 use Rattle.offers.proofs.RangeLaws.{supply-of-small}
 use Rattle.market.specs.Parties.{parties, relevantOf, amountOf, amounts}
 

@@ -13,7 +13,7 @@ use borrow.Author.Tests.{le-leb, leb-true, lt-ltb, le-ltb, ltb-true, ltb-false}
 use Rattle.base.proofs.Tests.{false-true, lt-or-ge, and-fst, and-snd}
 use Rattle.base.proofs.Members.{Lowest, lowest, Finds, it, nothing, finds, member-at}
 use Rattle.tables.specs.Rows.{SupplyRow}
-use Rattle.offers.specs.Supply.{absDfax, eligible, supply, supplyOf, atMost, below, noRow, rowAt}
+use Rattle.offers.specs.Supply.{absDfax, eligible, supply, totalSupply, atMost, below, noRow, rowAt}
 use Rattle.market.specs.Clearing.{eligibleSupply, short, eligibleUpTo, eligibleBelow, Clears, clears, clearing, clearingRow}
 use Rattle.offers.proofs.SupplyLaws.{
   supply-within,
@@ -62,7 +62,7 @@ module _ (cutoff : ℕ) (q r : SupplyRow) where
 -- what the rows at or below the cost of a row supply is supplied below the cost of a row that is dearer
 pub dearer :
     (cutoff : ℕ) (rows : List SupplyRow) (q s : SupplyRow) → below s q ≡ true →
-    supplyOf (eligibleUpTo cutoff q) rows ≤ supplyOf (eligibleBelow cutoff s) rows
+    totalSupply (eligibleUpTo cutoff q) rows ≤ totalSupply (eligibleBelow cutoff s) rows
 dearer cutoff rows q s b = supply-within (eligibleUpTo cutoff q) (eligibleBelow cutoff s) rows each
   where
     each :
@@ -80,8 +80,8 @@ module _ (cutoff need : ℕ) (rows : List SupplyRow) (q : SupplyRow) where
   clears-decides = (
     λ c. (c .a-row, simp (le-leb cutoff (absDfax q) (c .is-eligible), le-leb need _ (c .enough), lt-ltb _ need (c .less))),
     λ m.
-        let up = supplyOf (eligibleUpTo cutoff q) rows in
-        let under = supplyOf (eligibleBelow cutoff q) rows in
+        let up = totalSupply (eligibleUpTo cutoff q) rows in
+        let under = totalSupply (eligibleBelow cutoff q) rows in
         let supplies : (leb need up && ltb under need) ≡ true = and-snd (leb cutoff (absDfax q)) _ (m .1) in
         record {
           a-row = m .0;
@@ -112,7 +112,7 @@ module _ (cutoff need : ℕ) (rows : List SupplyRow) (positive : 0 < cutoff) whe
 
   -- the dearest of the eligible rows that pass a test, where those supply anything
   dearest :
-      (p : SupplyRow → Bool) → ((r : SupplyRow) → p r ≡ true → eligible cutoff r ≡ true) → 0 < supplyOf p rows →
+      (p : SupplyRow → Bool) → ((r : SupplyRow) → p r ≡ true → eligible cutoff r ≡ true) → 0 < totalSupply p rows →
       Lowest (λ r q. AtMost q r) p rows
   dearest p h pos =
       ⊎-elim
@@ -122,24 +122,24 @@ module _ (cutoff need : ℕ) (rows : List SupplyRow) (positive : 0 < cutoff) whe
 
   -- eligible rows with which the rows at or below supply the need
   reaches : SupplyRow → Bool
-  reaches q = eligible cutoff q && leb need (supplyOf (eligibleUpTo cutoff q) rows)
+  reaches q = eligible cutoff q && leb need (totalSupply (eligibleUpTo cutoff q) rows)
 
   reaches-eligible : (q : SupplyRow) → reaches q ≡ true → eligible cutoff q ≡ true
   unfolding reaches
   reaches-eligible q e = and-fst (eligible cutoff q) _ e
 
-  reaches-enough : (q : SupplyRow) → reaches q ≡ true → need ≤ supplyOf (eligibleUpTo cutoff q) rows
+  reaches-enough : (q : SupplyRow) → reaches q ≡ true → need ≤ totalSupply (eligibleUpTo cutoff q) rows
   unfolding reaches
   reaches-enough q e = leb-true need _ (and-snd (eligible cutoff q) _ e)
 
   -- the dearest row of those that pass a test reaches the need, where those supply it
   dearest-reaches :
-      (p : SupplyRow → Bool) → ((r : SupplyRow) → p r ≡ true → eligible cutoff r ≡ true) → need ≤ supplyOf p rows →
+      (p : SupplyRow → Bool) → ((r : SupplyRow) → p r ≡ true → eligible cutoff r ≡ true) → need ≤ totalSupply p rows →
       (d : Lowest (λ r q. AtMost q r) p rows) → reaches (d .it) ≡ true
   unfolding reaches
   dearest-reaches p h n d =
       let all = supply-mono p (eligibleUpTo cutoff (d .it)) rows (λ r m e. up-to cutoff (d .it) r (h r e) (d .no-higher r m e)) in
-      simp (h (d .it) (d .passes), le-leb need (supplyOf (eligibleUpTo cutoff (d .it)) rows) (omega arith))
+      simp (h (d .it) (d .passes), le-leb need (totalSupply (eligibleUpTo cutoff (d .it)) rows) (omega arith))
 
   module _ (some-need : 0 < need) where
     -- the cheapest row that reaches the need clears
@@ -150,11 +150,11 @@ module _ (cutoff need : ℕ) (rows : List SupplyRow) (positive : 0 < cutoff) whe
         a-row = l .a-member;
         is-eligible = eligible-is cutoff (l .it) (l .it) (reaches-eligible (l .it) (l .passes));
         enough = reaches-enough (l .it) (l .passes);
-        less = ⊎-elim (λ h. h) (λ h. absurd (too-cheap h)) (lt-or-ge (supplyOf (eligibleBelow cutoff (l .it)) rows) need);
+        less = ⊎-elim (λ h. h) (λ h. absurd (too-cheap h)) (lt-or-ge (totalSupply (eligibleBelow cutoff (l .it)) rows) need);
       },
     )
       where
-        too-cheap : need ≤ supplyOf (eligibleBelow cutoff (l .it)) rows → ⊥
+        too-cheap : need ≤ totalSupply (eligibleBelow cutoff (l .it)) rows → ⊥
         too-cheap h =
             let d = dearest (eligibleBelow cutoff (l .it)) (λ r. below-eligible cutoff (l .it) r) (omega arith) in
             let reached = dearest-reaches (eligibleBelow cutoff (l .it)) (λ r. below-eligible cutoff (l .it) r) h d in

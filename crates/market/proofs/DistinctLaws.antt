@@ -12,7 +12,7 @@ use Rattle.base.proofs.Tests.{false-true, or-fst, or-snd}
 use Rattle.base.proofs.Members.{member-at}
 use Rattle.base.proofs.RisingLaws.{not-among}
 use Rattle.numbers.proofs.NumberLaws.{Rises, nothing, from}
-use Rattle.pivotal.specs.Suppliers.{Absent, Distinct, staying}
+use Rattle.pivotal.proofs.Suppliers.{Absent, Distinct, staying}
 use Rattle.base.specs.Rising.{among, RisingFrom, end, next}
 
 pub among-member : {k : ℕ} {ks : List ℕ} → List·Memᴰ k ks → among k ks ≡ true

@@ -12,8 +12,8 @@ use borrow.Author.Tests.{ltb-true, lt-ltb}
 use Rattle.base.proofs.Members.{member-at, place-of}
 use Rattle.tables.specs.Rows.{SupplyRow}
 use Rattle.pivotal.specs.Test.{left, pivotal}
-use Rattle.pivotal.specs.Removal.{Removal, leaves}
-use Rattle.pivotal.specs.Suppliers.{gone}
+use Rattle.pivotal.proofs.Removal.{Removal, leaves}
+use Rattle.pivotal.proofs.Suppliers.{gone}
 use Rattle.pivotal.proofs.Least.{least, attained}
 use Rattle.pivotal.proofs.Numbered.{leaves-staying}
 use Rattle.market.specs.Parties.{parties, amountOf, amounts}

@@ -6,17 +6,17 @@ use native.Mathlib.Omega.{arith}
 use native.Mathlib.Numerals.{add-one}
 use lib.ListN.{length, getD, take, drop, set, length-drop, length-append, length-set, length-map}
 use lib.Seq.{length-take-le, take-suc, take-at, set-at, append-snoc}
-use Rattle.base.specs.Writing.{Wrote}
+use Rattle.base.specs.promises.Writing.{Wrote}
 use Rattle.base.proofs.Writers.{wrote-front, wrote-over}
 use Rattle.base.proofs.Lists.{drop-next}
 use Rattle.base.proofs.RisingLaws.{inserted-least}
 use Rattle.numbers.specs.Numbers.{numbersFrom, numbersOf}
 use Rattle.numbers.proofs.NumberLaws.{numbers-least}
-use Rattle.tables.specs.Rows.{supplyRows}
 use Rattle.base.specs.Rising.{inserted}
-use Rattle.cells.specs.Views.{supplyAt}
+use Rattle.cells.specs.promises.Views.{supplyAt}
 use Rattle.market.specs.Parties.{party, parties}
 use Rattle.offers.proofs.CellLaws.{rows-next, rows-end}
+use Rattle.tables.specs.promises.FlatRows.{supplyRows}
 
 -- of n rows the first i have been passed, and their parties stand at the start of what is written
 pub record Listing (n : ℕ) (cells old new : List ℕ) (i count : ℕ) : Type 0 where

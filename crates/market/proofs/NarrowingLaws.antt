@@ -10,12 +10,13 @@ use lib.Dec.{ltb}
 use borrow.Author.Tests.{le-leb, lt-leb, lt-ltb, le-ltb, ltb-true, ltb-false, eq-eqb, ne-eqb}
 use Rattle.base.proofs.Tests.{false-true, lt-or-ge, and-fst, and-snd}
 use Rattle.base.proofs.Members.{place-of}
-use Rattle.tables.specs.Rows.{SupplyRow, supplyRows}
+use Rattle.tables.specs.Rows.{SupplyRow}
+use Rattle.tables.specs.promises.FlatRows.{supplyRows}
 use Rattle.cells.proofs.RowViews.{supply-length}
 use Rattle.market.specs.declared.narrowing.Bounds.{Bounds}
-use Rattle.offers.specs.Supply.{eligible, supply, supplyOf, costBeside, atMost, below, noRow, rowAt}
+use Rattle.offers.specs.Supply.{eligible, supply, totalSupply, costBeside, atMost, below, noRow, rowAt}
 use Rattle.market.specs.Clearing.{eligibleUpTo, eligibleBelow, clears}
-use Rattle.market.specs.Narrowing.{
+use Rattle.market.specs.promises.Narrowing.{
   eligibleAt,
   counts,
   cheaper,
@@ -25,8 +26,8 @@ use Rattle.market.specs.Narrowing.{
   Narrows,
   ClearingCost,
 }
-use Rattle.cells.specs.Views.{supplyAt}
-use Rattle.offers.specs.Ranges.{SupplyCells}
+use Rattle.cells.specs.promises.Views.{supplyAt}
+use Rattle.offers.specs.promises.Ranges.{SupplyCells}
 use Rattle.offers.proofs.CellLaws.{row-at}
 use Rattle.market.proofs.ClearingLaws.{
   up-to,
@@ -76,10 +77,10 @@ below-most r q e = let h = ltb-true (costBeside q r) (costBeside r q) e in omega
 -- the rows that clear are the eligible ones of its cost
 module _
     (cutoff need : ℕ) (rows : List SupplyRow) (h : SupplyRow) (pos : 0 < supply h)
-    (enough : need ≤ supplyOf (eligibleUpTo cutoff h) rows) (less : supplyOf (eligibleBelow cutoff h) rows < need)
+    (enough : need ≤ totalSupply (eligibleUpTo cutoff h) rows) (less : totalSupply (eligibleBelow cutoff h) rows < need)
   where
     -- rows of a cost at or above h's, and at or below it
-    up-more : (q : SupplyRow) → AtMost h q → need ≤ supplyOf (eligibleUpTo cutoff q) rows
+    up-more : (q : SupplyRow) → AtMost h q → need ≤ totalSupply (eligibleUpTo cutoff q) rows
     up-more q a =
         omega (
           arith,
@@ -87,7 +88,7 @@ module _
               (λ r m e. up-to cutoff q r (up-to-eligible cutoff h r e) (through-supply r h q pos (up-to-most cutoff h r e) a)),
         )
 
-    below-less : (q : SupplyRow) → AtMost q h → supplyOf (eligibleBelow cutoff q) rows < need
+    below-less : (q : SupplyRow) → AtMost q h → totalSupply (eligibleBelow cutoff q) rows < need
     below-less q a = omega (arith, supply-mono (eligibleBelow cutoff q) (eligibleBelow cutoff h) rows each)
       where
         each : (r : SupplyRow) → List·Memᴰ r rows → eligibleBelow cutoff q r ≡ true → eligibleBelow cutoff h r ≡ true
@@ -109,7 +110,7 @@ module _
         under-it b =
             let cost = ltb-true (costBeside h q) (costBeside q h) b in
             simp (
-              lt-leb need (supplyOf (eligibleUpTo cutoff q) rows) (omega (arith, dearer cutoff rows q h b)),
+              lt-leb need (totalSupply (eligibleUpTo cutoff q) rows) (omega (arith, dearer cutoff rows q h b)),
               ne-eqb (costBeside h q) (costBeside q h) (omega arith),
               and-false,
             )
@@ -118,7 +119,7 @@ module _
         over-it a b =
             let cost = ltb-true (costBeside q h) (costBeside h q) b in
             simp (
-              le-ltb (supplyOf (eligibleBelow cutoff q) rows) need (omega (arith, dearer cutoff rows h q b)),
+              le-ltb (totalSupply (eligibleBelow cutoff q) rows) need (omega (arith, dearer cutoff rows h q b)),
               ne-eqb (costBeside h q) (costBeside q h) (omega arith),
               and-false,
             )
@@ -126,19 +127,19 @@ module _
         same : AtMost h q → AtMost q h → Goal
         same a b =
             simp (
-              le-leb need (supplyOf (eligibleUpTo cutoff q) rows) (up-more q a),
-              lt-ltb (supplyOf (eligibleBelow cutoff q) rows) need (below-less q b),
+              le-leb need (totalSupply (eligibleUpTo cutoff q) rows) (up-more q a),
+              lt-ltb (totalSupply (eligibleBelow cutoff q) rows) need (below-less q b),
               eq-eqb (costBeside h q) (costBeside q h) (omega arith),
             )
 
 -- and where all eligible rows supply less, none clears
 clears-none :
-    (cutoff need : ℕ) (rows : List SupplyRow) → supplyOf (eligible cutoff) rows < need → (q : SupplyRow) →
+    (cutoff need : ℕ) (rows : List SupplyRow) → totalSupply (eligible cutoff) rows < need → (q : SupplyRow) →
     clears cutoff need rows q ≡ false
 unfolding clears
 clears-none cutoff need rows less q =
     simp (
-      lt-leb need (supplyOf (eligibleUpTo cutoff q) rows)
+      lt-leb need (totalSupply (eligibleUpTo cutoff q) rows)
           (omega (arith, supply-mono (eligibleUpTo cutoff q) (eligible cutoff) rows (λ r m e. up-to-eligible cutoff q r e))),
       and-false,
     )
@@ -147,7 +148,7 @@ clears-none cutoff need rows less q =
 pub clears-nothing :
     (cutoff need : ℕ) → need ≡ 0 → (rows : List SupplyRow) (q : SupplyRow) → clears cutoff need rows q ≡ false
 unfolding clears
-clears-nothing cutoff need e rows q = simp (le-ltb (supplyOf (eligibleBelow cutoff q) rows) need (omega arith), and-false)
+clears-nothing cutoff need e rows q = simp (le-ltb (totalSupply (eligibleBelow cutoff q) rows) need (omega arith), and-false)
 
 -- what the test of two rows' costs says
 module _ (n : ℕ) (cells : List ℕ) (i j : ℕ) where
@@ -200,7 +201,7 @@ module _ (n : ℕ) (cells : List ℕ) (cutoff need : ℕ) (b : Bounds) (bounding
         now-outside = λ h c. not-between (e h) c;
       }
 
-  module _ (e : between n cells cutoff b i ≡ true) (up : ℕ) (f : up ≡ supplyOf (eligibleUpTo cutoff q) (supplyRows n cells)) where
+  module _ (e : between n cells cutoff b i ≡ true) (up : ℕ) (f : up ≡ totalSupply (eligibleUpTo cutoff q) (supplyRows n cells)) where
     it-counts : counts cutoff q ≡ true
     unfolding between
     it-counts = and-fst (counts cutoff q) _ e
@@ -339,7 +340,7 @@ module _ (n : ℕ) (cells : List ℕ) (cutoff need : ℕ) where
           (p : SupplyRow → Bool) →
           ((r : SupplyRow) → p r ≡ true → eligible cutoff r ≡ true) →
           ((r : SupplyRow) → p r ≡ true → Outside n cells b r → (b .low < n) × (atMost (supplyAt cells (b .low)) r ≡ true)) →
-          supplyOf p rows < need
+          totalSupply p rows < need
       unfolding rows
       low-less p el at-low = ⊎-elim some none (lt-or-ge (b .low) n)
         where
@@ -349,7 +350,7 @@ module _ (n : ℕ) (cells : List ℕ) (cutoff need : ℕ) where
           outside : (r : SupplyRow) → List·Memᴰ r rows → 0 < supply r → p r ≡ true → Outside n cells b r
           outside r m pos e = each-row r m (counting cutoff r (el r e) pos)
 
-          some : b .low < n → supplyOf p rows < need
+          some : b .low < n → totalSupply p rows < need
           some h =
               omega (
                 arith,
@@ -358,7 +359,7 @@ module _ (n : ℕ) (cells : List ℕ) (cutoff need : ℕ) where
                     (λ r m pos e. up-to cutoff low r (el r e) (at-most-true r low (at-low r e (outside r m pos e) .1))),
               )
 
-          none : n ≤ b .low → supplyOf p rows < need
+          none : n ≤ b .low → totalSupply p rows < need
           none h =
               omega (
                 arith,
@@ -367,7 +368,7 @@ module _ (n : ℕ) (cells : List ℕ) (cutoff need : ℕ) where
                     (λ r m pos e. absurd (omega (arith, at-low r e (outside r m pos e) .0))),
               )
 
-      high-less : b .high < n → supplyOf (eligibleBelow cutoff (supplyAt cells (b .high))) rows < need
+      high-less : b .high < n → totalSupply (eligibleBelow cutoff (supplyAt cells (b .high))) rows < need
       high-less h =
           let high = supplyAt cells (b .high) in
           low-less (eligibleBelow cutoff high) (λ r e. below-eligible cutoff high r e)

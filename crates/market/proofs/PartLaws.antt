@@ -5,10 +5,11 @@ use mathlib.Core.Bool.{Bool, cond}
 use mathlib.Core.List.{List}
 use native.Mathlib.Omega.{arith}
 use lib.ListN.{drop}
-use Rattle.tables.specs.Rows.{SupplyRow, supplyRows}
-use Rattle.offers.specs.Supply.{supply, supplyOf}
-use Rattle.cells.specs.Views.{supplyAt}
-use Rattle.offers.specs.Ranges.{SupplyCells}
+use Rattle.tables.specs.Rows.{SupplyRow}
+use Rattle.tables.specs.promises.FlatRows.{supplyRows}
+use Rattle.offers.specs.Supply.{supply, totalSupply}
+use Rattle.cells.specs.promises.Views.{supplyAt}
+use Rattle.offers.specs.promises.Ranges.{SupplyCells}
 use Rattle.offers.proofs.RangeLaws.{mostSupply, part-small, supply-small}
 use Rattle.offers.proofs.CellLaws.{rows-next, rows-end, row-cells}
 
@@ -16,7 +17,7 @@ use Rattle.offers.proofs.CellLaws.{rows-next, rows-end, row-cells}
 pub record Adding (n : ℕ) (cells : List ℕ) (p : SupplyRow → Bool) (i sum : ℕ) : Type 0 where
   pub upto : i ≤ n
   pub bounded : sum ≤ i * mostSupply
-  pub added : supplyOf p (supplyRows n cells) ≡ sum + supplyOf p (drop i (supplyRows n cells))
+  pub added : totalSupply p (supplyRows n cells) ≡ sum + totalSupply p (drop i (supplyRows n cells))
 
 module _ (n : ℕ) (cells : List ℕ) (p : SupplyRow → Bool) where
   pub adding-none : Adding n cells p 0 0
@@ -33,8 +34,8 @@ module _ (n : ℕ) (cells : List ℕ) (p : SupplyRow → Bool) where
       pub adding-fits : sum + a < 2 ^ 64
       adding-fits = omega (arith, small, so-far .bounded, s .few)
 
-      next : supplyOf p (drop i (supplyRows n cells)) ≡ a + supplyOf p (drop (i + 1) (supplyRows n cells))
-      unfolding supplyOf
+      next : totalSupply p (drop i (supplyRows n cells)) ≡ a + totalSupply p (drop (i + 1) (supplyRows n cells))
+      unfolding totalSupply
       next = rw (rows-next n cells i h, e)
 
       pub adding-next : Adding n cells p (i + 1) (sum + a)
@@ -45,8 +46,8 @@ module _ (n : ℕ) (cells : List ℕ) (p : SupplyRow → Bool) where
             added = omega (arith, so-far .added, next);
           }
 
-  pub adding-over : (i sum : ℕ) → n ≤ i → Adding n cells p i sum → sum ≡ supplyOf p (supplyRows n cells)
-  unfolding supplyOf
+  pub adding-over : (i sum : ℕ) → n ≤ i → Adding n cells p i sum → sum ≡ totalSupply p (supplyRows n cells)
+  unfolding totalSupply
   adding-over i sum h so-far =
-      let none : supplyOf p (drop i (supplyRows n cells)) ≡ 0 = rw (rows-end n cells i h) in
+      let none : totalSupply p (drop i (supplyRows n cells)) ≡ 0 = rw (rows-end n cells i h) in
       omega (arith, so-far .added, none)

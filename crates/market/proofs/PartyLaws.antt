@@ -11,12 +11,12 @@ use borrow.Author.Tests.{eqb-true, eq-eqb}
 use Rattle.base.proofs.Tests.{false-true, either}
 use Rattle.tables.specs.Rows.{SupplyRow}
 use Rattle.pivotal.specs.Test.{total}
-use Rattle.pivotal.specs.Suppliers.{Distinct, staying}
+use Rattle.pivotal.proofs.Suppliers.{Distinct, staying}
 use Rattle.base.specs.Rising.{among}
 use Rattle.base.specs.Search.{any}
 use Rattle.base.proofs.Elements.{any-mem, none-mem}
 use Rattle.numbers.proofs.NumberLaws.{numbers-rise, among-numbers}
-use Rattle.offers.specs.Supply.{supply, supplyOf}
+use Rattle.offers.specs.Supply.{supply, totalSupply}
 use Rattle.offers.specs.Relevant.{relevant}
 use Rattle.market.specs.Parties.{party, parties, relevantOf, amountOf}
 use Rattle.market.specs.Removals.{PartyOf, relevantWithout, remaining}
@@ -70,7 +70,7 @@ module _ (cutoff : ℕ) (q : SupplyRow) where
   -- the amounts of different parties are the supply of the relevant rows of those parties
   amounts-among :
       (rows : List SupplyRow) {ks : List ℕ} → Distinct ks →
-      total (map (amountOf cutoff q rows) ks) ≡ supplyOf (relevantAmong ks) rows
+      total (map (amountOf cutoff q rows) ks) ≡ totalSupply (relevantAmong ks) rows
   unfolding total relevantAmong among amountOf relevantOf
   amounts-among rows Distinct.none = sym (supply-none (relevantAmong []) rows (λ r m. and-false (relevant cutoff q r)))
   amounts-among rows (Distinct.more {k} {ks} a d) =

@@ -9,11 +9,12 @@ use native.Mathlib.Numerals.{add-one}
 use lib.ListN.{length, drop}
 use Rattle.base.specs.Search.{first}
 use Rattle.base.proofs.Searches.{first-none, first-here, first-later}
-use Rattle.tables.specs.Rows.{SupplyRow, supplyRows}
+use Rattle.tables.specs.Rows.{SupplyRow}
+use Rattle.tables.specs.promises.FlatRows.{supplyRows}
 use Rattle.cells.proofs.RowViews.{supply-length}
 use Rattle.market.specs.Clearing.{clears, clearing}
-use Rattle.market.specs.Narrowing.{eligibleAt, firstAt}
-use Rattle.cells.specs.Views.{supplyAt}
+use Rattle.market.specs.promises.Narrowing.{eligibleAt, firstAt}
+use Rattle.cells.specs.promises.Views.{supplyAt}
 use Rattle.offers.proofs.CellLaws.{rows-next, rows-end}
 
 -- of n rows the first i have been tried, and none of them passes

@@ -10,11 +10,11 @@ use lib.Dec.{leb, ltb}
 use lib.ListN.{length}
 use Rattle.base.specs.Search.{first}
 use Rattle.tables.specs.Rows.{SupplyRow}
-use Rattle.offers.specs.Supply.{absDfax, eligible, supplyOf, atMost, below, rowAt}
+use Rattle.offers.specs.Supply.{absDfax, eligible, totalSupply, atMost, below, rowAt}
 
 -- "Eligible supply is the effective supply of the eligible rows, added up."
 unfoldable pub eligibleSupply : ℕ → List SupplyRow → ℕ
-eligibleSupply cutoff rows = supplyOf (eligible cutoff) rows
+eligibleSupply cutoff rows = totalSupply (eligible cutoff) rows
 
 -- "The need is relief × 10000"
 unfoldable pub needOf : ℕ → ℕ
@@ -37,14 +37,14 @@ eligibleBelow cutoff q r = eligible cutoff r && below q r
 pub record Clears (cutoff need : ℕ) (rows : List SupplyRow) (q : SupplyRow) : Type 0 where
   pub a-row : List·Memᴰ q rows
   pub is-eligible : cutoff ≤ absDfax q
-  pub enough : need ≤ supplyOf (eligibleUpTo cutoff q) rows
-  pub less : supplyOf (eligibleBelow cutoff q) rows < need
+  pub enough : need ≤ totalSupply (eligibleUpTo cutoff q) rows
+  pub less : totalSupply (eligibleBelow cutoff q) rows < need
 
 -- the same of one of the rows, as a test
 unfoldable pub clears : ℕ → ℕ → List SupplyRow → SupplyRow → Bool
 clears cutoff need rows q =
     eligible cutoff q
-    && (leb need (supplyOf (eligibleUpTo cutoff q) rows) && ltb (supplyOf (eligibleBelow cutoff q) rows) need)
+    && (leb need (totalSupply (eligibleUpTo cutoff q) rows) && ltb (totalSupply (eligibleBelow cutoff q) rows) need)
 
 -- the place of the first row in file order that clears, or the number of rows where none does
 unfoldable pub clearing : ℕ → ℕ → List SupplyRow → ℕ

@@ -1,5 +1,4 @@
 pub mod Clearing
-pub mod Narrowing
 pub mod Parties
-pub mod Parts
 pub mod Removals
+pub mod promises

@@ -6,7 +6,7 @@ use mathlib.Core.List.{List, map}
 use lib.Dec.{eqb}
 use Rattle.numbers.specs.Numbers.{numbersOf}
 use Rattle.tables.specs.Rows.{SupplyRow}
-use Rattle.offers.specs.Supply.{supplyOf}
+use Rattle.offers.specs.Supply.{totalSupply}
 use Rattle.offers.specs.Relevant.{relevant}
 
 -- the number under which a row's supply counts in the test: its supplier
@@ -23,7 +23,7 @@ relevantOf cutoff q k r = relevant cutoff q r && eqb (party r) k
 
 -- the relevant supply of a party, and of each of them
 unfoldable pub amountOf : ℕ → SupplyRow → List SupplyRow → ℕ → ℕ
-amountOf cutoff q rows k = supplyOf (relevantOf cutoff q k) rows
+amountOf cutoff q rows k = totalSupply (relevantOf cutoff q k) rows
 
 unfoldable pub amounts : ℕ → SupplyRow → List SupplyRow → List ℕ
 amounts cutoff q rows = map (amountOf cutoff q rows) (parties rows)

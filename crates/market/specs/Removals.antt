@@ -7,7 +7,7 @@ use mathlib.Core.Bool.{Bool, _&&_, not}
 use mathlib.Core.List.{List, [], _∷_, List·Memᴰ}
 use Rattle.tables.specs.Rows.{SupplyRow}
 use Rattle.base.specs.Rising.{among}
-use Rattle.offers.specs.Supply.{supplyOf}
+use Rattle.offers.specs.Supply.{totalSupply}
 use Rattle.offers.specs.Relevant.{relevant}
 use Rattle.market.specs.Parties.{party}
 
@@ -30,4 +30,4 @@ relevantWithout cutoff q ks r = relevant cutoff q r && not (among (party r) ks)
 -- "What a removal leaves, in demand 3, is the effective supply, added up, of the relevant rows of every supplier not
 -- removed."
 unfoldable pub remaining : ℕ → SupplyRow → List ℕ → List SupplyRow → ℕ
-remaining cutoff q ks rows = supplyOf (relevantWithout cutoff q ks) rows
+remaining cutoff q ks rows = totalSupply (relevantWithout cutoff q ks) rows

@@ -1,11 +1,11 @@
 // Eligible supply, the need, and the clearing row: the first of the rows of the clearing cost.
 ghost use mathlib.Core.Path.{_≡_};
 ghost use Prim.Native.Nat.{_≤_, _<_};
-ghost use Rattle.tables.specs.Rows.{supplyRows};
-ghost use Rattle.cells.specs.Views.{supplyAt};
-ghost use Rattle.offers.specs.Ranges.{RowCells, SupplyCells, mostRelief};
+ghost use Rattle.cells.specs.promises.Views.{supplyAt};
+ghost use Rattle.offers.specs.promises.Ranges.{SupplyRowAt, SupplyCells, mostRelief};
 ghost use Rattle.market.specs.Clearing.{eligibleSupply, needOf, clearing};
-ghost use Rattle.market.specs.Narrowing.{eligibleAt, firstAt};
+ghost use Rattle.market.specs.promises.Narrowing.{eligibleAt, firstAt};
+ghost use Rattle.tables.specs.promises.FlatRows.{supplyRows};
 use crate::narrowing::clearing_cost;
 use crate::parts::Part;
 use crate::parts::supply_of;
@@ -63,8 +63,8 @@ fn first_at(cells: &[u64], n: usize, cutoff: u64, limit: usize) -> usize
 }
 
 fn is_at(cells: &[u64], row: usize, limit: usize, cutoff: u64) -> bool
-    requires { ⌜ RowCells (now cells) row ⌝ }
-    requires { ⌜ RowCells (now cells) limit ⌝ }
+    requires { ⌜ SupplyRowAt (now cells) row ⌝ }
+    requires { ⌜ SupplyRowAt (now cells) limit ⌝ }
     ensures { λ r. ⌜ r ≡ eligibleAt cutoff (supplyAt (now (cells .entry)) limit) (supplyAt (now (cells .entry)) row) ⌝ }
 {
     if is_eligible(cells, row, cutoff) {

@@ -2,9 +2,9 @@
 // and becomes one of them; any other costs two comparisons.
 ghost use mathlib.Core.Path.{_≡_};
 ghost use Prim.Native.Nat.{_<_};
-ghost use Rattle.cells.specs.Views.{supplyAt};
-ghost use Rattle.offers.specs.Ranges.{RowCells, SupplyCells};
-ghost use Rattle.market.specs.Narrowing.{counts as Narrowing·counts, cheaper, between, Bounding, Narrows, ClearingCost};
+ghost use Rattle.cells.specs.promises.Views.{supplyAt};
+ghost use Rattle.offers.specs.promises.Ranges.{SupplyRowAt, SupplyCells};
+ghost use Rattle.market.specs.promises.Narrowing.{counts as Narrowing·counts, cheaper, between, Bounding, Narrows, ClearingCost};
 use crate::parts::Part;
 use crate::parts::supply_of;
 use offers::cost_beside;
@@ -80,7 +80,7 @@ fn is_between(cells: &[u64], n: usize, cutoff: u64, bounds: Bounds, row: usize) 
 
 // Rows that supply nothing aren't tried: some row of the clearing cost supplies something.
 fn counts(cells: &[u64], row: usize, cutoff: u64) -> bool
-    requires { ⌜ RowCells (now cells) row ⌝ }
+    requires { ⌜ SupplyRowAt (now cells) row ⌝ }
     ensures { λ r. ⌜ r ≡ Narrowing·counts cutoff (supplyAt (now (cells .entry)) row) ⌝ }
 {
     if is_eligible(cells, row, cutoff) {

@@ -3,11 +3,11 @@ ghost use mathlib.Core.Path.{_≡_};
 ghost use mathlib.Core.List.{_++_, map};
 ghost use Prim.Native.Nat.{_<_, _≤_};
 ghost use lib.ListN.{length, take, drop};
-ghost use Rattle.base.specs.Writing.{Wrote};
-ghost use Rattle.tables.specs.Rows.{supplyRows};
-ghost use Rattle.cells.specs.Views.{supplyAt};
-ghost use Rattle.offers.specs.Ranges.{RowCells, SupplyCells};
+ghost use Rattle.base.specs.promises.Writing.{Wrote};
+ghost use Rattle.cells.specs.promises.Views.{supplyAt};
+ghost use Rattle.offers.specs.promises.Ranges.{SupplyRowAt, SupplyCells};
 ghost use Rattle.market.specs.Parties.{party as Parties·party, parties as Parties·parties, amountOf};
+ghost use Rattle.tables.specs.promises.FlatRows.{supplyRows};
 use crate::parts::Part;
 use crate::parts::supply_of;
 use numbers::insert;
@@ -15,7 +15,7 @@ use offers::supplier;
 
 // The number under which the row's supply counts in the test.
 pub fn party(cells: &[u64], row: usize) -> u64
-    requires { ⌜ RowCells (now cells) row ⌝ }
+    requires { ⌜ SupplyRowAt (now cells) row ⌝ }
     ensures { λ r. ⌜ r ≡ Parties·party (supplyAt (now (cells .entry)) row) ⌝ }
 {
     supplier(cells, row)

@@ -2,13 +2,13 @@
 // part that the market asks for.
 ghost use mathlib.Core.Path.{_≡_};
 ghost use mathlib.Core.Bool.{cond};
-ghost use Rattle.tables.specs.Rows.{supplyRows};
-ghost use Rattle.cells.specs.Views.{supplyAt};
-ghost use Rattle.offers.specs.Ranges.{RowCells, SupplyCells};
-ghost use Rattle.offers.specs.Supply.{supply, supplyOf};
+ghost use Rattle.cells.specs.promises.Views.{supplyAt};
+ghost use Rattle.offers.specs.promises.Ranges.{SupplyRowAt, SupplyCells};
+ghost use Rattle.offers.specs.Supply.{supply, totalSupply};
 ghost use Rattle.market.specs.Clearing.{eligibleUpTo};
 ghost use Rattle.market.specs.Parties.{relevantOf};
-ghost use Rattle.market.specs.Parts.{PartCells, inPart};
+ghost use Rattle.market.specs.promises.Parts.{PartCells, inPart};
+ghost use Rattle.tables.specs.promises.FlatRows.{supplyRows};
 use crate::parties::party;
 use offers::cost_beside;
 use offers::effective_supply;
@@ -27,7 +27,7 @@ pub enum Part {
 pub fn supply_of(cells: &[u64], n: usize, cutoff: u64, part: Part) -> u64
     requires { ⌜ SupplyCells n (now cells) ⌝ }
     requires { ⌜ PartCells (now cells) part ⌝ }
-    ensures { λ r. ⌜ r ≡ supplyOf (inPart (now (cells .entry)) cutoff part) (supplyRows n (now (cells .entry))) ⌝ }
+    ensures { λ r. ⌜ r ≡ totalSupply (inPart (now (cells .entry)) cutoff part) (supplyRows n (now (cells .entry))) ⌝ }
 {
     let mut sum = 0;
     let mut row = 0;
@@ -40,7 +40,7 @@ pub fn supply_of(cells: &[u64], n: usize, cutoff: u64, part: Part) -> u64
 
 // What a row adds to a part.
 fn supply_in(cells: &[u64], row: usize, cutoff: u64, part: Part) -> u64
-    requires { ⌜ RowCells (now cells) row ⌝ }
+    requires { ⌜ SupplyRowAt (now cells) row ⌝ }
     requires { ⌜ PartCells (now cells) part ⌝ }
     ensures { λ r. ⌜ r ≡ cond (inPart (now (cells .entry)) cutoff part (supplyAt (now (cells .entry)) row)) (supply (supplyAt (now (cells .entry)) row)) 0 ⌝ }
 {
@@ -51,7 +51,7 @@ fn supply_in(cells: &[u64], row: usize, cutoff: u64, part: Part) -> u64
 }
 
 fn is_in(cells: &[u64], row: usize, cutoff: u64, part: Part) -> bool
-    requires { ⌜ RowCells (now cells) row ⌝ }
+    requires { ⌜ SupplyRowAt (now cells) row ⌝ }
     requires { ⌜ PartCells (now cells) part ⌝ }
     ensures { λ r. ⌜ r ≡ inPart (now (cells .entry)) cutoff part (supplyAt (now (cells .entry)) row) ⌝ }
 {
@@ -63,8 +63,8 @@ fn is_in(cells: &[u64], row: usize, cutoff: u64, part: Part) -> bool
 }
 
 fn is_up_to(cells: &[u64], row: usize, limit: usize, cutoff: u64) -> bool
-    requires { ⌜ RowCells (now cells) row ⌝ }
-    requires { ⌜ RowCells (now cells) limit ⌝ }
+    requires { ⌜ SupplyRowAt (now cells) row ⌝ }
+    requires { ⌜ SupplyRowAt (now cells) limit ⌝ }
     ensures { λ r. ⌜ r ≡ eligibleUpTo cutoff (supplyAt (now (cells .entry)) limit) (supplyAt (now (cells .entry)) row) ⌝ }
 {
     if cost_beside(cells, limit, row) <= cost_beside(cells, row, limit) {
@@ -75,8 +75,8 @@ fn is_up_to(cells: &[u64], row: usize, limit: usize, cutoff: u64) -> bool
 
 // The party is asked first, since few rows are of one.
 fn is_relevant_of(cells: &[u64], row: usize, clearing: usize, cutoff: u64, k: u64) -> bool
-    requires { ⌜ RowCells (now cells) row ⌝ }
-    requires { ⌜ RowCells (now cells) clearing ⌝ }
+    requires { ⌜ SupplyRowAt (now cells) row ⌝ }
+    requires { ⌜ SupplyRowAt (now cells) clearing ⌝ }
     ensures { λ r. ⌜ r ≡ relevantOf cutoff (supplyAt (now (cells .entry)) clearing) k (supplyAt (now (cells .entry)) row) ⌝ }
 {
     if party(cells, row) == k {

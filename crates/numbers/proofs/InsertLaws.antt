@@ -9,11 +9,11 @@ use native.Mathlib.Numerals.{add-one}
 use lib.ListN.{length, getD, take, drop, set, length-set, length-append, take-append-drop}
 use lib.Seq.{take-suc-set, drop-set-lt, take-suc, append-snoc, drop-drop, getD-take, length-take-le, set-split, take-take}
 use Rattle.base.specs.Rising.{inserted}
-use Rattle.base.specs.Writing.{Wrote}
+use Rattle.base.specs.promises.Writing.{Wrote}
 use Rattle.base.proofs.Lists.{drop-next, drop-end}
 use Rattle.base.proofs.Tests.{lt-or-ge}
 use Rattle.base.proofs.RisingLaws.{inserted-cases}
-use Rattle.numbers.specs.Inserting.{Placed, withAt}
+use Rattle.numbers.specs.promises.Inserting.{Placed, withAt}
 use Rattle.numbers.proofs.SearchLaws.{front-next}
 
 -- i numbers are passed on the way to the place of x

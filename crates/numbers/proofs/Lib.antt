@@ -1,3 +1,4 @@
+pub mod Computing
 pub mod InsertLaws
 pub mod NumberLaws
 pub mod SearchLaws

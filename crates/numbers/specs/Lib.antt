@@ -1,2 +1,2 @@
-pub mod Inserting
 pub mod Numbers
+pub mod promises

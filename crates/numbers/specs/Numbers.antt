@@ -18,8 +18,3 @@ module _ {A : Type 0} (column : A → ℕ) where
 -- the place of a number in a list
 unfoldable pub placeOf : ℕ → List ℕ → ℕ
 placeOf k ks = Option·getD (first (λ (j : ℕ). eqb j k) 0 ks) 0
-
--- opens all of the above, for examples that compute
-unfoldable pub numbers·all : Unit {0}
-unfolding numbersFrom numbersOf placeOf
-numbers·all = tt

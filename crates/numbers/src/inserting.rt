@@ -4,8 +4,8 @@ ghost use mathlib.Core.Path.{_≡_};
 ghost use Prim.Native.Nat.{_≤_, _<_};
 ghost use lib.ListN.{length, take};
 ghost use Rattle.base.specs.Rising.{inserted};
-ghost use Rattle.base.specs.Writing.{Wrote};
-ghost use Rattle.numbers.specs.Inserting.{Placed, withAt};
+ghost use Rattle.base.specs.promises.Writing.{Wrote};
+ghost use Rattle.numbers.specs.promises.Inserting.{Placed, withAt};
 
 // Puts x into the first `count` numbers, unless it is there, and answers how many they are then.
 pub fn insert(out: &mut [u64], count: usize, x: u64) -> usize

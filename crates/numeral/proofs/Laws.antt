@@ -12,24 +12,9 @@ use lib.ListN.{length}
 use borrow.Author.Tests.{leb-true, eqb-true, eqb-false}
 use Rattle.base.proofs.Tests.{lt-or-ge}
 use Rattle.numeral.specs.declared.Answer.the-variants.{Number, Refused}
-use Rattle.numeral.specs.Answers.{answer}
-use Rattle.numeral.specs.Numeral.{
-  ZERO,
-  Digit,
-  withDigit,
-  Digits,
-  Digits.end,
-  Digits.digit,
-  Numeral,
-  Numeral.zero-itself,
-  Numeral.no-leading-zero,
-  digitsFrom,
-  leadingZero,
-  number,
-  within,
-  digitsBefore,
-  digits,
-}
+use Rattle.numeral.specs.promises.Answers.{numeralAnswer}
+use Rattle.numeral.specs.Numeral.{ZERO, withDigit, digitsFrom, leadingZero, number, within, digitsBefore, digits}
+use Rattle.numeral.specs.Grammar.{Digit, Digits, Numeral, Digits.end, Digits.digit, Numeral.zero-itself, Numeral.no-leading-zero}
 use Rattle.numeral.proofs.Reading.{none-some, from-digit, number-from, digits-read, read-digits}
 use Rattle.numeral.proofs.Writing.{before, before-one, before-more, length-one, length-more}
 
@@ -121,6 +106,22 @@ length-at-most (suc (suc k)) n p h =
 pub length-u64 : (n : ℕ) → n < 2 ^ 64 → length (digits n) ≤ 20
 length-u64 n h = length-at-most 20 n (omega arith) (omega arith)
 
+-- the numeral of a larger number is no shorter
+longer-from : (k m n : ℕ) → n ≤ k → m ≤ n → length (digits m) ≤ length (digits n)
+longer-from zero m n p h = omega (arith, length-one m (omega arith), length-at-least n)
+longer-from (suc k) m n p h = go (longer-from k (m / 10) (n / 10)) (lt-or-ge m 10) (lt-or-ge n 10)
+  where
+    go : (n / 10 ≤ k → m / 10 ≤ n / 10 → length (digits (m / 10)) ≤ length (digits (n / 10))) → (m < 10) ⊎ (10 ≤ m) → (n < 10) ⊎ (10 ≤ n) →
+        length (digits m) ≤ length (digits n)
+    go ih (inl l) e = omega (arith, length-one m l, length-at-least n)
+    go ih (inr l) (inl e) = absurd (omega arith)
+    go ih (inr l) (inr e) =
+        let f : length (digits (m / 10)) ≤ length (digits (n / 10)) = ih (omega arith) (omega arith) in
+        omega (arith, length-more m l, length-more n e)
+
+pub length-longer : (m n : ℕ) → m ≤ n → length (digits m) ≤ length (digits n)
+length-longer m n h = longer-from n m n (omega arith) h
+
 -- every byte of a numeral is a digit
 digits-all : {m n b : ℕ} {s : List ℕ} → Digits m s n → List·Memᴰ b s → Digit b
 digits-all (digit d r) (List·Memᴰ·head e) = rw e d
@@ -160,12 +161,12 @@ within-some least most n (some m) e = go (leb least m) (leb m most) refl refl e
     go false q f g e = none-some e
 
 -- what `read` answers, taken back
-pub answer-number : (n : ℕ) (o : Option ℕ) → Number n ≡ answer o → o ≡ some n
-unfolding answer
+pub answer-number : (n : ℕ) (o : Option ℕ) → Number n ≡ numeralAnswer o → o ≡ some n
+unfolding numeralAnswer
 answer-number n none e = cc
 answer-number n (some m) e = cc
 
-pub answer-refused : (o : Option ℕ) → Refused ≡ answer o → o ≡ none
-unfolding answer
+pub answer-refused : (o : Option ℕ) → Refused ≡ numeralAnswer o → o ≡ none
+unfolding numeralAnswer
 answer-refused none e = refl
 answer-refused (some m) e = cc

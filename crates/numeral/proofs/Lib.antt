@@ -1,3 +1,4 @@
+pub mod Computing
 pub mod Examples
 pub mod Laws
 pub mod Reading

@@ -9,19 +9,8 @@ use native.Mathlib.Omega.{arith}
 use lib.Dec.{leb}
 use borrow.Author.Tests.{le-leb, lt-leb, ne-eqb, leb-true}
 use Rattle.base.proofs.Tests.{lt-or-ge}
-use Rattle.numeral.specs.Numeral.{
-  ZERO,
-  NINE,
-  Digit,
-  withDigit,
-  Digits,
-  Digits.end,
-  Digits.digit,
-  digitsFrom,
-  leadingZero,
-  number,
-  within,
-}
+use Rattle.numeral.specs.Numeral.{ZERO, NINE, withDigit, digitsFrom, leadingZero, number, within}
+use Rattle.numeral.specs.Grammar.{Digit, Digits, Digits.end, Digits.digit}
 
 -- no number is none
 pub none-some : {A : Type 0} {n : ℕ} → _≡_ {A = Option ℕ} none (some n) → A

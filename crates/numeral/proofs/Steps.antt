@@ -9,11 +9,12 @@ use native.Mathlib.Omega.{arith}
 use lib.Dec.{eqb}
 use lib.ListN.{length, getD, drop, set}
 use borrow.Author.Tests.{le-leb, lt-leb}
-use Rattle.base.specs.Writing.{Wrote}
+use Rattle.base.specs.promises.Writing.{Wrote}
 use Rattle.base.proofs.Lists.{drop-next, drop-end, drop-set}
 use Rattle.numeral.specs.declared.Answer.the-variants.{Number, Refused}
-use Rattle.numeral.specs.Answers.{answer}
-use Rattle.numeral.specs.Numeral.{ZERO, Digit, withDigit, digitsFrom, leadingZero, number, within, digits}
+use Rattle.numeral.specs.promises.Answers.{numeralAnswer}
+use Rattle.numeral.specs.Numeral.{ZERO, withDigit, digitsFrom, leadingZero, number, within, digits}
+use Rattle.numeral.specs.Grammar.{Digit}
 use Rattle.numeral.proofs.Reading.{from-digit, from-other, above-next}
 use Rattle.numeral.proofs.Writing.{before, before-one, before-more, before-append}
 
@@ -43,39 +44,39 @@ pub read-digit :
 read-digit s i n read h d = rw (read, drop-next 0 i s) (from-digit n (getD s i 0) (drop (i + 1) s) d)
 
 module _ (least most : ℕ) where
-  refused : (o : Option ℕ) → within least most o ≡ none → Refused ≡ answer (within least most o)
-  unfolding answer
+  refused : (o : Option ℕ) → within least most o ≡ none → Refused ≡ numeralAnswer (within least most o)
+  unfolding numeralAnswer
   refused o e = rw e
 
   -- before the reading starts
-  pub refused-empty : (s : List ℕ) → length s ≡ 0 → Refused ≡ answer (within least most (number s))
+  pub refused-empty : (s : List ℕ) → length s ≡ 0 → Refused ≡ numeralAnswer (within least most (number s))
   unfolding number within
   refused-empty [] e = refused none refl
   refused-empty (b ∷ s) e = absurd (omega arith)
 
-  pub refused-leading : (s : List ℕ) → leadingZero s ≡ true → Refused ≡ answer (within least most (number s))
+  pub refused-leading : (s : List ℕ) → leadingZero s ≡ true → Refused ≡ numeralAnswer (within least most (number s))
   unfolding number within
   refused-leading [] e = refused none refl
   refused-leading (b ∷ s) e = rw e (refused none refl)
 
   -- at a byte, and at the end
   module _ (s : List ℕ) (i n : ℕ) (read : number s ≡ digitsFrom n (drop i s)) where
-    pub refused-other : i < length s → (Digit (getD s i 0) → ⊥) → Refused ≡ answer (within least most (number s))
+    pub refused-other : i < length s → (Digit (getD s i 0) → ⊥) → Refused ≡ numeralAnswer (within least most (number s))
     unfolding within
     refused-other h d =
         rw (read, drop-next 0 i s, from-other n (getD s i 0) (drop (i + 1) s) d) (refused none refl)
 
-    pub refused-above : i < length s → most < withDigit n (getD s i 0) → Refused ≡ answer (within least most (number s))
+    pub refused-above : i < length s → most < withDigit n (getD s i 0) → Refused ≡ numeralAnswer (within least most (number s))
     refused-above h k =
         let rest = getD s i 0 ∷ drop (i + 1) s in
         rw (read, drop-next 0 i s) (refused (digitsFrom n rest) (above-next least most n _ _ k))
 
-    pub refused-below : length s ≤ i → n < least → Refused ≡ answer (within least most (number s))
+    pub refused-below : length s ≤ i → n < least → Refused ≡ numeralAnswer (within least most (number s))
     unfolding within digitsFrom
     refused-below h k = rw (read, drop-end i s h) (refused (some n) (simp (lt-leb least n k)))
 
-    pub answered : length s ≤ i → least ≤ n → n ≤ most → Number n ≡ answer (within least most (number s))
-    unfolding within digitsFrom answer
+    pub answered : length s ≤ i → least ≤ n → n ≤ most → Number n ≡ numeralAnswer (within least most (number s))
+    unfolding within digitsFrom numeralAnswer
     answered h k l = rw (read, drop-end i s h) (simp (le-leb least n k, le-leb n most l))
 
 -- one more digit is written, at the place in front of those that are

@@ -1,2 +1,3 @@
-pub mod Answers
+pub mod Grammar
 pub mod Numeral
+pub mod promises

@@ -1,9 +1,7 @@
 -- Numerals, as the paper has them: "A numeral is digits with no sign and no leading zero, except `0` itself."
--- First as a grammar, with the value; then as a reading, and as the writing of a number. That the reading decides the
--- grammar, and that reading and writing undo one another, is shown in `proofs/Laws`. Texts are bytes in ASCII, a number
--- may be of any size. Assumes nothing.
-use Prim.Native.Nat.{ℕ, zero, suc, _+_, _*_, _-_, _/_, _%_, _≤_}
-use mathlib.Core.Logic.{_≢_}
+-- Here as a reading, and as the writing of a number. That the reading decides the grammar (`Grammar`), and that reading and writing
+-- undo one another, is shown in `proofs/Laws`. Texts are bytes in ASCII, a number may be of any size. Assumes nothing.
+use Prim.Native.Nat.{ℕ, zero, suc, _+_, _*_, _-_, _/_, _%_}
 use mathlib.Core.Bool.{Bool, false, cond, _&&_}
 use mathlib.Core.List.{List, [], _∷_}
 use mathlib.Core.Option.{Option, none, some}
@@ -17,24 +15,9 @@ ZERO = 0x30
 abbrev pub NINE : ℕ
 NINE = 0x39
 
--- a digit, 0 to 9
-pub record Digit (b : ℕ) : Type 0 where
-  pub least : ZERO ≤ b
-  pub most : b ≤ NINE
-
 -- one more digit behind a number
 abbrev pub withDigit : ℕ → ℕ → ℕ
 withDigit m b = 10 * m + (b - ZERO)
-
--- s is digits, and behind a number m they make the number n
-pub data Digits : ℕ → List ℕ → ℕ → Type 0 where
-  end : {m : ℕ} → Digits m [] m
-  digit : {m b n : ℕ} {s : List ℕ} → Digit b → Digits (withDigit m b) s n → Digits m (b ∷ s) n
-
--- s is a numeral of value n: `0` itself, or digits of which the first is not 0
-pub data Numeral : List ℕ → ℕ → Type 0 where
-  zero-itself : Numeral (ZERO ∷ []) 0
-  no-leading-zero : {b n : ℕ} {s : List ℕ} → b ≢ ZERO → Digits 0 (b ∷ s) n → Numeral (b ∷ s) n
 
 -- the number that digits make behind a number m
 unfoldable pub digitsFrom : ℕ → List ℕ → Option ℕ
@@ -72,8 +55,3 @@ digitsBefore (suc k) n t =
 -- the numeral of n
 unfoldable pub digits : ℕ → List ℕ
 digits n = digitsBefore n n []
-
--- opens all of the above, for examples that compute
-unfoldable pub numeral·all : Unit {0}
-unfolding digitsFrom leadingZero number within digitsBefore digits
-numeral·all = tt

@@ -3,8 +3,8 @@
 ghost use Prim.Native.Nat.{_≤_};
 ghost use mathlib.Core.Path.{_≡_};
 ghost use lib.ListN.{length};
-ghost use Rattle.base.specs.Writing.{Wrote};
-ghost use Rattle.numeral.specs.Answers.{answer};
+ghost use Rattle.base.specs.promises.Writing.{Wrote};
+ghost use Rattle.numeral.specs.promises.Answers.{numeralAnswer};
 ghost use Rattle.numeral.specs.Numeral.{digits, leadingZero, number, within};
 
 const BASE: u64 = 10;
@@ -20,7 +20,7 @@ pub enum Answer {
 
 // The number from least to most that s is the numeral of.
 pub fn read(s: &[u8], least: u64, most: u64) -> Answer
-    ensures { λ r. ⌜ r ≡ answer (within least most (number (now (s .entry)))) ⌝ }
+    ensures { λ r. ⌜ r ≡ numeralAnswer (within least most (number (now (s .entry)))) ⌝ }
 {
     if s.len() == 0 {
         return Answer::Refused;

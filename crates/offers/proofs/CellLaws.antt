@@ -8,21 +8,22 @@ use lib.ListN.{getD, drop}
 use lib.Seq.{getD-drop}
 use Rattle.base.proofs.Lists.{drop-end}
 use Rattle.base.proofs.Members.{member-of-rest}
-use Rattle.tables.specs.Rows.{supplyRows, size}
-use Rattle.cells.specs.Views.{supplyAt}
+use Rattle.tables.specs.Rows.{magnitude}
+use Rattle.tables.specs.promises.FlatRows.{supplyRows}
+use Rattle.cells.specs.promises.Views.{supplyAt}
 use Rattle.cells.proofs.RowViews.{supply-next, supply-length}
 use Rattle.offers.specs.Offer.{capped}
 use Rattle.offers.specs.Supply.{absDfax, supply, offer, costBeside, noRow, rowAt}
-use Rattle.offers.specs.Ranges.{RowCells, SupplyCells}
+use Rattle.offers.specs.promises.Ranges.{SupplyRowAt, SupplyCells}
 
 -- what the code computes of a row's cells
 module _ (cells : List ℕ) (i : ℕ) where
   pub dfax-below : getD cells (i * 5 + 4) 0 < 10000 → 10000 - getD cells (i * 5 + 4) 0 ≡ absDfax (supplyAt cells i)
-  unfolding absDfax size
+  unfolding absDfax magnitude
   dfax-below h = omega arith
 
   pub dfax-above : 10000 ≤ getD cells (i * 5 + 4) 0 → getD cells (i * 5 + 4) 0 - 10000 ≡ absDfax (supplyAt cells i)
-  unfolding absDfax size
+  unfolding absDfax magnitude
   dfax-above h = omega arith
 
   pub supply-cells : (a : ℕ) → a ≡ absDfax (supplyAt cells i) → getD cells (i * 5 + 2) 0 * a ≡ supply (supplyAt cells i)
@@ -52,7 +53,7 @@ module _ (n : ℕ) (cells : List ℕ) (i : ℕ) where
   pub row-member : i < n → List·Memᴰ (supplyAt cells i) (supplyRows n cells)
   row-member h = member-of-rest i (supplyRows n cells) (rw (rows-next h) (List·Memᴰ·head refl))
 
-  pub row-cells : SupplyCells n cells → i < n → RowCells cells i
+  pub row-cells : SupplyCells n cells → i < n → SupplyRowAt cells i
   row-cells s h =
       record {
         inside = omega (arith, s .inside);

@@ -7,10 +7,10 @@ use mathlib.Core.Path.{_≡_, refl}
 use native.Mathlib.Omega.{arith}
 use native.Mathlib.Nat.{mul-le-mul}
 use lib.ListN.{length}
-use Rattle.tables.specs.Ranges.{PermittedSupply}
-use Rattle.tables.specs.Rows.{SupplyRow, size}
+use Rattle.tables.specs.promises.Ranges.{PermittedSupply}
+use Rattle.tables.specs.Rows.{SupplyRow, magnitude}
 use Rattle.offers.specs.Offer.{capped, ceiling}
-use Rattle.offers.specs.Supply.{absDfax, supply, supplyOf, offer, costBeside}
+use Rattle.offers.specs.Supply.{absDfax, supply, totalSupply, offer, costBeside}
 
 -- the most that one row supplies
 abbrev pub mostSupply : ℕ
@@ -18,7 +18,7 @@ mostSupply = 10 ^ 9
 
 module _ (r : SupplyRow) (p : PermittedSupply r) where
   pub abs-small : absDfax r ≤ 10000
-  unfolding absDfax size
+  unfolding absDfax magnitude
   abs-small = omega (arith, p .dfax)
 
   pub supply-small : supply r ≤ mostSupply
@@ -42,8 +42,8 @@ part-small false s h = omega arith
 
 pub supply-of-small :
     (p : SupplyRow → Bool) (rows : List SupplyRow) → ((r : SupplyRow) → List·Memᴰ r rows → PermittedSupply r) →
-    supplyOf p rows ≤ length rows * mostSupply
-unfolding supplyOf
+    totalSupply p rows ≤ length rows * mostSupply
+unfolding totalSupply
 supply-of-small p [] h = omega arith
 supply-of-small p (r ∷ rows) h =
     omega

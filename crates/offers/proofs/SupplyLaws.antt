@@ -10,7 +10,7 @@ use native.Mathlib.Nat.{mul-le-mul-right, le-of-mul-le-mul-right}
 use borrow.Author.Tests.{le-leb, leb-true, lt-ltb, ltb-true}
 use Rattle.base.proofs.Tests.{false-true, lt-or-ge}
 use Rattle.tables.specs.Rows.{SupplyRow}
-use Rattle.offers.specs.Supply.{absDfax, supply, supplyOf, offer, costBeside, atMost, below}
+use Rattle.offers.specs.Supply.{absDfax, supply, totalSupply, offer, costBeside, atMost, below}
 
 -- a supply that counts where a test passes, where another does if the first does and there is a supply
 part-le : (s : ℕ) (t u : Bool) → (0 < s → t ≡ true → u ≡ true) → cond t s 0 ≤ cond u s 0
@@ -23,21 +23,21 @@ module _ (p q : SupplyRow → Bool) where
   -- rows that pass p supply no more than rows that pass q, where whatever passes p and supplies something passes q
   pub supply-within :
       (rows : List SupplyRow) → ((r : SupplyRow) → List·Memᴰ r rows → 0 < supply r → p r ≡ true → q r ≡ true) →
-      supplyOf p rows ≤ supplyOf q rows
-  unfolding supplyOf
+      totalSupply p rows ≤ totalSupply q rows
+  unfolding totalSupply
   supply-within [] h = omega arith
   supply-within (r ∷ rows) h =
       omega (arith, part-le (supply r) (p r) (q r) (h r (List·Memᴰ·head refl)), supply-within rows (λ x m. h x (List·Memᴰ·tail m)))
 
   pub supply-mono :
       (rows : List SupplyRow) → ((r : SupplyRow) → List·Memᴰ r rows → p r ≡ true → q r ≡ true) →
-      supplyOf p rows ≤ supplyOf q rows
+      totalSupply p rows ≤ totalSupply q rows
   supply-mono rows h = supply-within rows (λ r m _. h r m)
 
   -- and the same, where the tests are the same of each row
   pub supply-same :
-      (rows : List SupplyRow) → ((r : SupplyRow) → List·Memᴰ r rows → p r ≡ q r) → supplyOf p rows ≡ supplyOf q rows
-  unfolding supplyOf
+      (rows : List SupplyRow) → ((r : SupplyRow) → List·Memᴰ r rows → p r ≡ q r) → totalSupply p rows ≡ totalSupply q rows
+  unfolding totalSupply
   supply-same [] h = refl
   supply-same (r ∷ rows) h = rw (h r (List·Memᴰ·head refl), supply-same rows (λ x m. h x (List·Memᴰ·tail m)))
 
@@ -45,15 +45,15 @@ module _ (p q : SupplyRow → Bool) where
 pub supply-adds :
     (p q s : SupplyRow → Bool) →
     ((r : SupplyRow) → cond (p r) (supply r) 0 + cond (q r) (supply r) 0 ≡ cond (s r) (supply r) 0) →
-    (rows : List SupplyRow) → supplyOf p rows + supplyOf q rows ≡ supplyOf s rows
-unfolding supplyOf
+    (rows : List SupplyRow) → totalSupply p rows + totalSupply q rows ≡ totalSupply s rows
+unfolding totalSupply
 supply-adds p q s h [] = refl
 supply-adds p q s h (r ∷ rows) = omega (arith, h r, supply-adds p q s h rows)
 
 -- nothing is supplied where no row passes
 pub supply-none :
-    (p : SupplyRow → Bool) (rows : List SupplyRow) → ((r : SupplyRow) → List·Memᴰ r rows → p r ≡ false) → supplyOf p rows ≡ 0
-unfolding supplyOf
+    (p : SupplyRow → Bool) (rows : List SupplyRow) → ((r : SupplyRow) → List·Memᴰ r rows → p r ≡ false) → totalSupply p rows ≡ 0
+unfolding totalSupply
 supply-none p [] h = refl
 supply-none p (r ∷ rows) h = rw (h r (List·Memᴰ·head refl), supply-none p rows (λ x m. h x (List·Memᴰ·tail m)))
 

@@ -1,4 +1,4 @@
 pub mod Offer
-pub mod Ranges
 pub mod Relevant
 pub mod Supply
+pub mod promises

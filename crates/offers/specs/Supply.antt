@@ -6,11 +6,11 @@ use mathlib.Core.Bool.{Bool, cond}
 use mathlib.Core.List.{List, [], _∷_}
 use lib.Dec.{leb, ltb}
 use lib.ListN.{getD}
-use Rattle.tables.specs.Rows.{SupplyRow, size}
+use Rattle.tables.specs.Rows.{SupplyRow, magnitude}
 use Rattle.offers.specs.Offer.{capped}
 
 unfoldable pub absDfax : SupplyRow → ℕ
-absDfax r = size (r .dfax)
+absDfax r = magnitude (r .dfax)
 
 unfoldable pub eligible : ℕ → SupplyRow → Bool
 eligible cutoff r = leb cutoff (absDfax r)
@@ -19,9 +19,9 @@ unfoldable pub supply : SupplyRow → ℕ
 supply r = r .mw * absDfax r
 
 -- the effective supply, added up, of the rows that pass a test
-unfoldable pub supplyOf : (SupplyRow → Bool) → List SupplyRow → ℕ
-supplyOf p [] = 0
-supplyOf p (r ∷ rows) = cond (p r) (supply r) 0 + supplyOf p rows
+unfoldable pub totalSupply : (SupplyRow → Bool) → List SupplyRow → ℕ
+totalSupply p [] = 0
+totalSupply p (r ∷ rows) = cond (p r) (supply r) 0 + totalSupply p rows
 
 -- the cost-based offer of a row
 unfoldable pub offer : SupplyRow → ℕ

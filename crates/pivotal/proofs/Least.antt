@@ -10,7 +10,7 @@ use lib.ListN.{length, getD, set, length-set, List·getD-eq-default}
 use borrow.Author.Tests.{ltb-true, lt-ltb}
 use Rattle.base.proofs.Tests.{lt-or-ge, eq-or-ne}
 use Rattle.pivotal.specs.Test.{total, left, pivotal}
-use Rattle.pivotal.specs.Removal.{Removal, alone, with-one, with-two, leaves}
+use Rattle.pivotal.proofs.Removal.{Removal, alone, with-one, with-two, leaves}
 use Rattle.pivotal.proofs.Amounts.{both, largestTwo, largest-one, largest-two, largest-places, total-set, total-set-two, set-gone}
 
 module _ (s : List ℕ) (p : ℕ) where

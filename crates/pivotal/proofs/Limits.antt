@@ -10,8 +10,8 @@ use lib.ListN.{length, getD, drop}
 use borrow.Author.Tests.{lt-ltb, le-ltb, ltb-false, le-leb, lt-leb}
 use Rattle.base.proofs.Lists.{drop-next, drop-end}
 use Rattle.base.proofs.Tests.{or-fst, or-snd}
-use Rattle.pivotal.specs.Test.{left, pivotal, verdictOf, mostAmounts, mostAmount, tooLarge, refused, tested}
-use Rattle.pivotal.specs.declared.Verdict.{Verdict}
+use Rattle.pivotal.specs.Test.{left, testVerdict, finding, testOutcome, mostAmounts, mostAmount, tooLarge, outOfBounds, tested}
+use Rattle.pivotal.specs.declared.Finding.{Finding}
 use Rattle.pivotal.specs.declared.Answer.the-variants.{Tested, Refused}
 
 module _ (s : List ℕ) (i : ℕ) where
@@ -36,21 +36,22 @@ none-large (a ∷ s) e (suc i) = none-large s (or-snd (ltb mostAmount a) (tooLar
 
 -- the test by what it looks at, in the order of the refusals
 module _ (s : List ℕ) (p need : ℕ) where
-  pub too-many : mostAmounts < length s → Refused ≡ tested s p need
-  unfolding tested refused
+  pub too-many : mostAmounts < length s → testOutcome Refused ≡ tested s p need
+  unfolding tested outOfBounds
   too-many h = simp (lt-ltb mostAmounts (length s) h)
 
   module _ (few : length s ≤ mostAmounts) where
-    pub one-too-large : tooLarge s ≡ true → Refused ≡ tested s p need
-    unfolding tested refused
+    pub one-too-large : tooLarge s ≡ true → testOutcome Refused ≡ tested s p need
+    unfolding tested outOfBounds
     one-too-large e = simp (le-ltb mostAmounts (length s) few, e)
 
     module _ (small : tooLarge s ≡ false) where
-      pub nowhere : length s ≤ p → Refused ≡ tested s p need
-      unfolding tested refused
+      pub nowhere : length s ≤ p → testOutcome Refused ≡ tested s p need
+      unfolding tested outOfBounds
       nowhere h = simp (le-ltb mostAmounts (length s) few, small, le-leb (length s) p h)
 
       pub somewhere :
-          (l : ℕ) (v : Verdict) → p < length s → l ≡ left s p → v ≡ verdictOf (pivotal (left s p) need) → Tested l v ≡ tested s p need
-      unfolding tested refused
+          (l : ℕ) (v : Finding) → p < length s → l ≡ left s p → finding v ≡ testVerdict (left s p) need →
+          testOutcome (Tested l v) ≡ tested s p need
+      unfolding tested outOfBounds
       somewhere l v h e f = simp (le-ltb mostAmounts (length s) few, small, lt-leb (length s) p h, e, f)

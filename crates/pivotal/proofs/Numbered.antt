@@ -10,8 +10,8 @@ use lib.Dec.{eqb}
 use lib.ListN.{length, getD, set, length-map}
 use borrow.Author.Tests.{eq-eqb, ne-eqb}
 use Rattle.pivotal.specs.Test.{total}
-use Rattle.pivotal.specs.Removal.{Removal, alone, with-one, with-two, leaves}
-use Rattle.pivotal.specs.Suppliers.{Absent, Distinct, without, staying, gone}
+use Rattle.pivotal.proofs.Removal.{Removal, alone, with-one, with-two, leaves}
+use Rattle.pivotal.proofs.Suppliers.{Absent, Distinct, without, staying, gone}
 use Rattle.base.specs.Rising.{among}
 
 without-own : (f : ℕ → ℕ) (k : ℕ) → without f k k ≡ 0

@@ -7,7 +7,7 @@ use native.Mathlib.Omega.{arith}
 use lib.ListN.{length, getD, set, drop, length-set}
 use Rattle.pivotal.specs.declared.Tally.{Tally}
 use Rattle.pivotal.specs.Test.{total, begun, fed, fedAll, left, mostAmount}
-use Rattle.pivotal.specs.Tally.{largest, Limited}
+use Rattle.pivotal.specs.promises.Tally.{largest, Limited}
 use Rattle.pivotal.proofs.Amounts.{both, largestTwo, largest-within, set-below, total-next, total-end, fedAll-next, fedAll-end}
 
 -- the tally t has been fed the first i amounts of s, with 0 for the place p

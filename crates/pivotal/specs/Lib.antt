@@ -1,4 +1,2 @@
-pub mod Removal
-pub mod Suppliers
-pub mod Tally
 pub mod Test
+pub mod promises

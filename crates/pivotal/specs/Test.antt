@@ -1,15 +1,28 @@
 -- The pivotal test, by document 01, "Market and verdict", point 5, and refusal 11: amounts, one per supplier, the place
 -- of the supplier tested, and the need. To take a supplier away is to put 0 in its place.
--- Assumes nothing; that left is the least that any removal leaves (`Removal`) is shown in `proofs/Least`.
+-- Assumes nothing; that left is the least that any removal leaves is shown in `proofs/Least`.
 use Prim.Native.Nat.{ℕ, _+_, _-_, _^_}
-use mathlib.Core.Bool.{Bool, true, false, cond, _||_}
+use mathlib.Core.Bool.{Bool, false, cond, _||_}
 use mathlib.Core.List.{List, [], _∷_}
 use lib.Dec.{ltb, leb}
 use lib.ListN.{length, set}
-use Rattle.pivotal.specs.declared.Verdict.{Verdict}
-use Rattle.pivotal.specs.declared.Verdict.the-variants.{P, F}
+use Rattle.tables.specs.Refusals.{bareRefusal}
+use Rattle.tables.specs.declared.files.Refusal.{Refusal}
 use Rattle.pivotal.specs.declared.Answer.{Answer}
 use Rattle.pivotal.specs.declared.Answer.the-variants.{Tested, Refused}
+use Rattle.pivotal.specs.declared.Finding.{Finding}
+use Rattle.pivotal.specs.declared.Finding.the-variants.{Passes, Fails}
+
+-- the verdicts: the test cannot be performed, passed, failed; and their letters
+pub data Verdict : Type 0 where
+  U : Verdict
+  P : Verdict
+  F : Verdict
+
+abbrev pub verdictLetter : Verdict → ℕ
+verdictLetter U = 0x55
+verdictLetter P = 0x50
+verdictLetter F = 0x46
 
 unfoldable pub total : List ℕ → ℕ
 total [] = 0
@@ -46,9 +59,8 @@ left s p =
 unfoldable pub pivotal : ℕ → ℕ → Bool
 pivotal left need = ltb left need
 
-unfoldable pub verdictOf : Bool → Verdict
-verdictOf true = F
-verdictOf false = P
+abbrev pub testVerdict : ℕ → ℕ → Verdict
+testVerdict left need = cond (pivotal left need) F P
 
 abbrev pub mostAmounts : ℕ
 mostAmounts = 32
@@ -62,27 +74,27 @@ tooLarge [] = false
 tooLarge (a ∷ s) = ltb mostAmount a || tooLarge s
 
 -- refusal 11: "over 32 amounts, an amount above 10^12, or no such place"
-unfoldable pub refused : List ℕ → ℕ → Bool
-refused s p = ltb mostAmounts (length s) || tooLarge s || leb (length s) p
+unfoldable pub outOfBounds : List ℕ → ℕ → Bool
+outOfBounds s p = ltb mostAmounts (length s) || tooLarge s || leb (length s) p
 
--- the whole outcome: "it answers left and P or F", or refuses
-unfoldable pub tested : List ℕ → ℕ → ℕ → Answer
-tested s p need = cond (refused s p) Refused (Tested (left s p) (verdictOf (pivotal (left s p) need)))
+-- what a call of the test gives, by this paper's values: number, file and place, what is left and the letter of the verdict
+pub record TestOutcome : Type 0 where
+  pub told : Refusal
+  pub left : ℕ
+  pub verdict : ℕ
 
--- document 01's values for each answer: the number of the refusal, 0 where there is none, its file and its place
-unfoldable pub number : Answer → ℕ
-number (Tested l v) = 0
-number Refused = 11
+-- these for each answer
+abbrev pub finding : Finding → Verdict
+finding Passes = P
+finding Fails = F
 
-unfoldable pub file : Answer → ℕ
-file (Tested l v) = 0
-file Refused = 0
+abbrev pub testOutcome : Answer → TestOutcome
+testOutcome (Tested l v) = record { told = bareRefusal 0; left = l; verdict = verdictLetter (finding v) }
+testOutcome Refused = record { told = bareRefusal 11; left = 0; verdict = 0 }
 
-unfoldable pub place : Answer → ℕ
-place (Tested l v) = 0
-place Refused = 0
-
--- and for each verdict: its letter, as a byte
-abbrev pub letter : Verdict → ℕ
-letter P = 0x50
-letter F = 0x46
+-- "it answers left and P or F", or refuses
+unfoldable pub tested : List ℕ → ℕ → ℕ → TestOutcome
+tested s p need =
+    cond (outOfBounds s p)
+    (record { told = bareRefusal 11; left = 0; verdict = 0 })
+    (record { told = bareRefusal 0; left = left s p; verdict = verdictLetter (testVerdict (left s p) need) })

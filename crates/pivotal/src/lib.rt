@@ -4,8 +4,8 @@
 ghost use mathlib.Core.Path.{_≡_};
 ghost use Prim.Native.Nat.{_+_, _<_, _^_};
 ghost use lib.ListN.{length, getD, set};
-ghost use Rattle.pivotal.specs.Test.{tested, tooLarge, verdictOf, fed as Test·fed, left as Test·left, pivotal as Test·pivotal};
-ghost use Rattle.pivotal.specs.Tally.{largest, Limited};
+ghost use Rattle.pivotal.specs.Test.{finding, testOutcome, tested, tooLarge, testVerdict, fed as Test·fed, left as Test·left, pivotal as Test·pivotal};
+ghost use Rattle.pivotal.specs.promises.Tally.{largest, Limited};
 
 // The most amounts that are tested together, and the most that one may be.
 const AMOUNTS: usize = 32;
@@ -13,14 +13,14 @@ const AMOUNTS: usize = 32;
 const AMOUNT: u64 = 1_000_000_000_000;
 
 // Whether a supplier passes the test or fails it.
-pub enum Verdict {
-    P,
-    F,
+pub enum Finding {
+    Passes,
+    Fails,
 }
 
-// What the test answers: what is left, and the verdict.
+// What the test answers: what is left, and what was found.
 pub enum Answer {
-    Tested(u64, Verdict),
+    Tested(u64, Finding),
     Refused,
 }
 
@@ -33,7 +33,7 @@ pub struct Tally {
 
 // The test of the supplier at `place`.
 pub fn test(amounts: &[u64], place: usize, need: u64) -> Answer
-    ensures { λ r. ⌜ r ≡ tested (now (amounts .entry)) place need ⌝ }
+    ensures { λ r. ⌜ testOutcome r ≡ tested (now (amounts .entry)) place need ⌝ }
 {
     if AMOUNTS < amounts.len() {
         return Answer::Refused;
@@ -45,7 +45,7 @@ pub fn test(amounts: &[u64], place: usize, need: u64) -> Answer
         return Answer::Refused;
     }
     let remains = left(amounts, place);
-    Answer::Tested(remains, verdict_of(pivotal(remains, need)))
+    Answer::Tested(remains, found(remains, need))
 }
 
 // What is left without the supplier at `place` and without its two largest others, for a caller
@@ -74,10 +74,14 @@ pub fn pivotal(left: u64, need: u64) -> bool
     left < need
 }
 
-fn verdict_of(is_pivotal: bool) -> Verdict
-    ensures { λ r. ⌜ r ≡ verdictOf «is_pivotal» ⌝ }
+fn found(left: u64, need: u64) -> Finding
+    ensures { λ r. ⌜ finding r ≡ testVerdict left need ⌝ }
 {
-    if is_pivotal { Verdict::F } else { Verdict::P }
+    if pivotal(left, need) {
+        Finding::Fails
+    } else {
+        Finding::Passes
+    }
 }
 
 fn too_large(amounts: &[u64]) -> bool

@@ -9,13 +9,14 @@ use native.Mathlib.Omega.{arith}
 use lib.Dec.{eqb}
 use lib.ListN.{length, getD, take, drop}
 use lib.Seq.{length-take-le, getD-take}
-use Rattle.base.specs.Search.{one, leading, those}
+use Rattle.base.specs.Search.{those}
 use Rattle.base.proofs.Lists.{drop-next, drop-end}
 use Rattle.base.proofs.Searches.{one-le}
+use Rattle.base.specs.promises.Counting.{one, leading}
 use Rattle.tables.specs.declared.files.Kind.{Kind}
-use Rattle.judge.specs.Day.{RunningUnit, runs, kindRunning, wouldRun}
-use Rattle.running.specs.Asking.{newcomers}
-use Rattle.running.specs.Places.{placeOf}
+use Rattle.outcome.specs.Day.{RunningUnit, runs, kindRunning, wouldRun}
+use Rattle.running.specs.promises.Asking.{newcomers}
+use Rattle.running.specs.promises.Places.{unitPlace}
 use Rattle.running.specs.View.{missing, unitsOf}
 use Rattle.running.specs.declared.units.Units.{Units}
 use Rattle.running.proofs.ViewLaws.{unused, counted, first-at}
@@ -23,13 +24,13 @@ use Rattle.running.proofs.PlaceLaws.{place-runs, place-rests}
 
 -- the kind by the unit's place
 kind-at :
-    (u : ℕ) (rs : List RunningUnit) → placeOf u rs < length rs → kindRunning u rs ≡ some (getD rs (placeOf u rs) missing .kind)
-unfolding placeOf leading kindRunning
+    (u : ℕ) (rs : List RunningUnit) → unitPlace u rs < length rs → kindRunning u rs ≡ some (getD rs (unitPlace u rs) missing .kind)
+unfolding unitPlace leading kindRunning
 kind-at u [] h = absurd (not-suc-le-zero h)
 kind-at u (r ∷ rs) h = go (eqb (r .unit) u) h (kind-at u rs)
   where
     at : ℕ
-    at = placeOf u rs
+    at = unitPlace u rs
 
     go :
         (t : Bool) → cond (not t) (suc at) 0 < suc (length rs) →
@@ -38,13 +39,13 @@ kind-at u (r ∷ rs) h = go (eqb (r .unit) u) h (kind-at u rs)
     go true k ih = refl
     go false k ih = ih (le-of-suc-le-suc k)
 
-kind-none : (u : ℕ) (rs : List RunningUnit) → length rs ≤ placeOf u rs → kindRunning u rs ≡ none
-unfolding placeOf leading kindRunning
+kind-none : (u : ℕ) (rs : List RunningUnit) → length rs ≤ unitPlace u rs → kindRunning u rs ≡ none
+unfolding unitPlace leading kindRunning
 kind-none u [] h = refl
 kind-none u (r ∷ rs) h = go (eqb (r .unit) u) h (kind-none u rs)
   where
     at : ℕ
-    at = placeOf u rs
+    at = unitPlace u rs
 
     go :
         (t : Bool) → suc (length rs) ≤ cond (not t) (suc at) 0 → (length rs ≤ at → kindRunning u rs ≡ none) →
@@ -53,9 +54,9 @@ kind-none u (r ∷ rs) h = go (eqb (r .unit) u) h (kind-none u rs)
     go false k ih = ih (le-of-suc-le-suc k)
 
 -- what stands at the place that was found, and what it means that none was
-module _ (us : Units) (u at : ℕ) (e : at ≡ placeOf u (unitsOf us)) where
+module _ (us : Units) (u at : ℕ) (e : at ≡ unitPlace u (unitsOf us)) where
   module _ (h : at < us .count) where
-    there : placeOf u (unitsOf us) < length (unitsOf us)
+    there : unitPlace u (unitsOf us) < length (unitsOf us)
     there = omega (arith, counted us)
 
     pub kind-here :
@@ -70,7 +71,7 @@ module _ (us : Units) (u at : ℕ) (e : at ≡ placeOf u (unitsOf us)) where
     no-newcomer = rw (place-runs u (unitsOf us) there)
 
   module _ (h : us .count ≤ at) where
-    nowhere : length (unitsOf us) ≤ placeOf u (unitsOf us)
+    nowhere : length (unitsOf us) ≤ unitPlace u (unitsOf us)
     nowhere = omega (arith, counted us)
 
     pub kind-nowhere : none ≡ kindRunning u (unitsOf us)

@@ -13,12 +13,12 @@ use Rattle.base.specs.Rising.{RisingFrom, next}
 use Rattle.base.proofs.Lists.{drop-end}
 use Rattle.base.proofs.Tests.{or-fst, or-snd}
 use Rattle.cells.proofs.RowViews.{answer-next, answer-length}
-use Rattle.cells.specs.Views.{answerWidth, answerAt, answerRows}
-use Rattle.judge.specs.Day.{RunningUnit, mostRunning, putAll}
-use Rattle.judge.specs.Study.{chosen}
-use Rattle.judge.proofs.DayLaws.{unit, order-rising, put-all-length, merge-before, merge-at, merge-behind, merge-alone}
-use Rattle.running.specs.Committing.{unitNumbers, Fits, anyLeft, Turns}
-use Rattle.running.specs.Forming.{unitsFormed}
+use Rattle.cells.specs.promises.Views.{answerWidth, answerAt, answerRows}
+use Rattle.outcome.specs.Day.{RunningUnit, mostRunning, putAll}
+use Rattle.outcome.specs.Study.{chosen}
+use Rattle.outcome.proofs.DayLaws.{unit, order-rising, put-all-length, merge-before, merge-at, merge-behind, merge-alone}
+use Rattle.running.specs.promises.Committing.{unitNumbers, Fits, anyLeft, Turns}
+use Rattle.running.specs.promises.Forming.{unitsFormed}
 use Rattle.running.specs.View.{unitOf, firstUnits, unitsOf}
 use Rattle.running.specs.declared.committing.Turn.{Turn}
 use Rattle.running.specs.declared.units.Running.{Running}

@@ -8,12 +8,13 @@ use lib.Dec.{leb}
 use lib.ListN.{length}
 use borrow.Author.Tests.{lt-ltb, le-ltb, leb-true, le-leb, lt-leb}
 use Rattle.base.proofs.Tests.{and-fst, and-snd}
-use Rattle.tables.specs.Ranges.{inColumn}
-use Rattle.tables.specs.Table.{firstColumn, columnAt}
 use Rattle.tables.specs.declared.files.File.the-variants.{Schedules}
-use Rattle.judge.specs.Day.{RunningUnit, mostRunning, unitColumn, scheduleColumn, unitInRange, risingInRange}
-use Rattle.judge.proofs.DayLaws.{InOrder, in-order}
-use Rattle.running.specs.Forming.{unitsFormed}
+use Rattle.tables.specs.Values.{inColumn}
+use Rattle.tables.specs.promises.Columns.{firstColumn, columnAt, allColumns}
+use Rattle.tables.specs.Table.{unitColumn, scheduleColumn, constraintColumns, supplyColumns, schedulesColumns}
+use Rattle.outcome.specs.Day.{RunningUnit, mostRunning, unitInRange, risingInRange}
+use Rattle.outcome.proofs.DayLaws.{InOrder, in-order}
+use Rattle.running.specs.promises.Forming.{unitsFormed}
 use Rattle.running.specs.View.{unitsOf}
 use Rattle.running.specs.declared.units.Units.{Units}
 use Rattle.running.proofs.ViewLaws.{counted}
@@ -21,9 +22,11 @@ use Rattle.running.proofs.ViewLaws.{counted}
 -- a unit's numbers, each by what was answered of its column
 module _ (first x : ℕ) (r : Bool) (e : first ≡ firstColumn Schedules) where
   pub range-unit : r ≡ inColumn (columnAt (first + 0)) x → r ≡ inColumn unitColumn x
+  unfolding columnAt allColumns constraintColumns supplyColumns schedulesColumns
   range-unit f = f ∙ rw e
 
   pub range-schedule : r ≡ inColumn (columnAt (first + 1)) x → r ≡ inColumn scheduleColumn x
+  unfolding columnAt allColumns constraintColumns supplyColumns schedulesColumns
   range-schedule f = f ∙ rw e
 
 -- the units one after the other: one that does not rise, one out of range, one more, none
@@ -46,9 +49,9 @@ risen b = refl
 
 -- the units: too many, and else one after the other
 module _ (rs : List RunningUnit) where
-  pub crowded : mostRunning < length rs → unitsFormed rs ≡ false
+  pub over : mostRunning < length rs → unitsFormed rs ≡ false
   unfolding unitsFormed
-  crowded h = rw (lt-leb (length rs) mostRunning h)
+  over h = rw (lt-leb (length rs) mostRunning h)
 
   pub by-units : length rs ≤ mostRunning → unitsFormed rs ≡ risingInRange 0 rs
   unfolding unitsFormed

@@ -10,32 +10,33 @@ use lib.Dec.{eqb}
 use lib.ListN.{length, getD, take, drop, set, length-set}
 use lib.Seq.{length-take-le, drop-cons, take-suc-set, append-snoc, take-at}
 use borrow.Author.Tests.{eqb-true, eq-eqb, ne-eqb}
-use Rattle.base.specs.Search.{any, leading, those}
-use Rattle.judge.specs.Day.{RunningUnit, runs}
-use Rattle.judge.proofs.DayLaws.{InOrder, none-left, one-more, order-rising, not-below, those-all}
-use Rattle.running.specs.Places.{placeOf, removed}
+use Rattle.base.specs.Search.{any, those}
+use Rattle.base.specs.promises.Counting.{leading}
+use Rattle.outcome.specs.Day.{RunningUnit, runs}
+use Rattle.outcome.proofs.DayLaws.{InOrder, none-left, one-more, order-rising, not-below, those-all}
+use Rattle.running.specs.promises.Places.{unitPlace, removed}
 use Rattle.running.specs.View.{unitOf, firstUnits}
 use Rattle.running.specs.declared.units.Running.{Running}
 use Rattle.running.proofs.ViewLaws.{unused, first-next, first-end, first-map}
 
 -- a unit has the number, or not, or there is none
 module _ (u : ℕ) (r : RunningUnit) (rs : List RunningUnit) where
-  place-here : r .unit ≡ u → placeOf u (r ∷ rs) ≡ 0
-  unfolding placeOf leading
+  place-here : r .unit ≡ u → unitPlace u (r ∷ rs) ≡ 0
+  unfolding unitPlace leading
   place-here e = rw (eq-eqb (r .unit) u e)
 
-  place-later : (r .unit ≡ u → ⊥) → placeOf u (r ∷ rs) ≡ suc (placeOf u rs)
-  unfolding placeOf leading
+  place-later : (r .unit ≡ u → ⊥) → unitPlace u (r ∷ rs) ≡ suc (unitPlace u rs)
+  unfolding unitPlace leading
   place-later n = rw (ne-eqb (r .unit) u n)
 
-place-none : (u : ℕ) → placeOf u [] ≡ 0
-unfolding placeOf leading
+place-none : (u : ℕ) → unitPlace u [] ≡ 0
+unfolding unitPlace leading
 place-none u = refl
 
 -- the search: the first i of the units that are counted have other numbers
 pub record Passed (u count : ℕ) (running : List Running) (i : ℕ) : Type 0 where
   pub upto : i ≤ count
-  pub further : placeOf u (firstUnits count running) ≡ i + placeOf u (drop i (firstUnits count running))
+  pub further : unitPlace u (firstUnits count running) ≡ i + unitPlace u (drop i (firstUnits count running))
 
 module _ (u count : ℕ) (running : List Running) where
   pub passed-none : Passed u count running 0
@@ -44,7 +45,7 @@ module _ (u count : ℕ) (running : List Running) where
   -- the next unit is the one, or not, or there is none
   module _ (i : ℕ) (p : Passed u count running i) where
     module _ (h : i < count) (k : i < length running) where
-      pub passed-here : getD running i unused .unit ≡ u → i ≡ placeOf u (firstUnits count running)
+      pub passed-here : getD running i unused .unit ≡ u → i ≡ unitPlace u (firstUnits count running)
       passed-here e =
           let first = place-here u (unitOf (getD running i unused)) (drop (i + 1) (firstUnits count running)) e in
           sym (p .further ∙ rw (first-next unused count running i h k, first) (omega arith))
@@ -57,19 +58,19 @@ module _ (u count : ℕ) (running : List Running) where
             further = p .further ∙ rw (first-next unused count running i h k, later) (omega arith);
           }
 
-    pub passed-over : count ≤ i → count ≡ placeOf u (firstUnits count running)
+    pub passed-over : count ≤ i → count ≡ unitPlace u (firstUnits count running)
     passed-over h =
-        let none-left : placeOf u (drop i (firstUnits count running)) ≡ 0 = rw (first-end count running i h) (place-none u) in
+        let none-left : unitPlace u (drop i (firstUnits count running)) ≡ 0 = rw (first-end count running i h) (place-none u) in
         omega (arith, p .further, p .upto)
 
 -- a unit runs where it has a place
-pub place-runs : (u : ℕ) (rs : List RunningUnit) → placeOf u rs < length rs → runs u rs ≡ true
-unfolding placeOf leading runs any
+pub place-runs : (u : ℕ) (rs : List RunningUnit) → unitPlace u rs < length rs → runs u rs ≡ true
+unfolding unitPlace leading runs any
 place-runs u [] h = absurd (not-suc-le-zero h)
 place-runs u (r ∷ rs) h = go (eqb (r .unit) u) h (place-runs u rs)
   where
     more : ℕ
-    more = placeOf u rs
+    more = unitPlace u rs
 
     go :
         (t : Bool) → cond (not t) (suc more) 0 < suc (length rs) → (more < length rs → runs u rs ≡ true) →
@@ -77,13 +78,13 @@ place-runs u (r ∷ rs) h = go (eqb (r .unit) u) h (place-runs u rs)
     go true k ih = refl
     go false k ih = ih (le-of-suc-le-suc k)
 
-pub place-rests : (u : ℕ) (rs : List RunningUnit) → length rs ≤ placeOf u rs → runs u rs ≡ false
-unfolding placeOf leading runs any
+pub place-rests : (u : ℕ) (rs : List RunningUnit) → length rs ≤ unitPlace u rs → runs u rs ≡ false
+unfolding unitPlace leading runs any
 place-rests u [] h = refl
 place-rests u (r ∷ rs) h = go (eqb (r .unit) u) h (place-rests u rs)
   where
     more : ℕ
-    more = placeOf u rs
+    more = unitPlace u rs
 
     go :
         (t : Bool) → suc (length rs) ≤ cond (not t) (suc more) 0 → (length rs ≤ more → runs u rs ≡ false) →
@@ -93,9 +94,9 @@ place-rests u (r ∷ rs) h = go (eqb (r .unit) u) h (place-rests u rs)
 
 -- of units in order, only the one at the place has its number
 pub taken-out :
-    {b : ℕ} {rs : List RunningUnit} (u : ℕ) → InOrder b rs → placeOf u rs < length rs →
-    removed (placeOf u rs) rs ≡ those (λ (r : RunningUnit). not (eqb (r .unit) u)) rs
-unfolding placeOf leading removed those
+    {b : ℕ} {rs : List RunningUnit} (u : ℕ) → InOrder b rs → unitPlace u rs < length rs →
+    removed (unitPlace u rs) rs ≡ those (λ (r : RunningUnit). not (eqb (r .unit) u)) rs
+unfolding unitPlace leading removed those
 taken-out u none-left h = refl
 taken-out u (one-more {r} {rs} k e o) h = go (eqb (r .unit) u) refl h (taken-out u o)
   where
@@ -103,9 +104,9 @@ taken-out u (one-more {r} {rs} k e o) h = go (eqb (r .unit) u) refl h (taken-out
     others = those (λ (r : RunningUnit). not (eqb (r .unit) u)) rs
 
     go :
-        (t : Bool) → eqb (r .unit) u ≡ t → cond (not t) (suc (placeOf u rs)) 0 < suc (length rs) →
-        (placeOf u rs < length rs → removed (placeOf u rs) rs ≡ others) →
-        removed (cond (not t) (suc (placeOf u rs)) 0) (r ∷ rs) ≡ cond (not t) (r ∷ others) others
+        (t : Bool) → eqb (r .unit) u ≡ t → cond (not t) (suc (unitPlace u rs)) 0 < suc (length rs) →
+        (unitPlace u rs < length rs → removed (unitPlace u rs) rs ≡ others) →
+        removed (cond (not t) (suc (unitPlace u rs)) 0) (r ∷ rs) ≡ cond (not t) (r ∷ others) others
     go true f j ih = sym (those-all u rs (not-below u rs (omega (arith, eqb-true (r .unit) u f)) (order-rising o)))
     go false f j ih = ap (λ (l : List RunningUnit). r ∷ l) (ih (le-of-suc-le-suc j))
 

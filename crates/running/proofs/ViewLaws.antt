@@ -7,7 +7,7 @@ use native.Mathlib.Nat.{le-of-suc-le-suc, not-suc-le-zero}
 use lib.ListN.{length, getD, take, drop, length-map}
 use Rattle.base.proofs.Lists.{drop-end}
 use Rattle.tables.specs.declared.files.Kind.the-variants.{M}
-use Rattle.judge.specs.Day.{RunningUnit}
+use Rattle.outcome.specs.Day.{RunningUnit}
 use Rattle.running.specs.View.{unitOf, firstUnits, unitsOf}
 use Rattle.running.specs.declared.units.Running.{Running}
 use Rattle.running.specs.declared.units.Units.{Units}

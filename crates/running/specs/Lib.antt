@@ -1,5 +1,2 @@
-pub mod Asking
-pub mod Committing
-pub mod Forming
-pub mod Places
 pub mod View
+pub mod promises

@@ -3,7 +3,7 @@
 use Prim.Native.Nat.{ℕ, zero, suc}
 use mathlib.Core.List.{List, [], _∷_}
 use Rattle.tables.specs.declared.files.Kind.the-variants.{M}
-use Rattle.judge.specs.Day.{RunningUnit}
+use Rattle.outcome.specs.Day.{RunningUnit}
 use Rattle.running.specs.declared.units.Running.{Running}
 use Rattle.running.specs.declared.units.Units.{Units}
 

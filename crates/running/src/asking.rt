@@ -3,10 +3,10 @@
 ghost use mathlib.Core.Path.{_≡_};
 ghost use Prim.Native.Nat.{_≤_};
 ghost use lib.ListN.{length, take};
-ghost use Rattle.choice.specs.Schedules.{kindIn};
-ghost use Rattle.judge.specs.Day.{mostRunning, kindRunning, wouldRun};
-ghost use Rattle.running.specs.Asking.{newcomers};
+ghost use Rattle.outcome.specs.Day.{mostRunning, kindRunning, wouldRun};
+ghost use Rattle.running.specs.promises.Asking.{newcomers};
 ghost use Rattle.running.specs.View.{unitsOf};
+ghost use Rattle.choice.specs.promises.Kinds.{kindIn};
 use crate::units::Units;
 use choice::DayKind;
 use tables::Kind;

@@ -1,7 +1,7 @@
 // Whether running units are well-formed. Assumes nothing of them.
 ghost use mathlib.Core.Path.{_≡_};
-ghost use Rattle.judge.specs.Day.{unitInRange};
-ghost use Rattle.running.specs.Forming.{unitsFormed};
+ghost use Rattle.outcome.specs.Day.{unitInRange};
+ghost use Rattle.running.specs.promises.Forming.{unitsFormed};
 ghost use Rattle.running.specs.View.{unitOf, unitsOf};
 use crate::units::Running;
 use crate::units::Units;

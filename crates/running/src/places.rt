@@ -2,8 +2,8 @@
 // counted than there are places.
 ghost use mathlib.Core.Path.{_≡_};
 ghost use Prim.Native.Nat.{_≤_, _<_};
-ghost use Rattle.judge.specs.Day.{mostRunning};
-ghost use Rattle.running.specs.Places.{placeOf, removed};
+ghost use Rattle.outcome.specs.Day.{mostRunning};
+ghost use Rattle.running.specs.promises.Places.{unitPlace, removed};
 ghost use Rattle.running.specs.View.{unitsOf};
 use crate::units::Units;
 
@@ -11,7 +11,7 @@ impl Units {
     // The place of the unit among the running ones, or their count where it isn't among them.
     pub fn place_of(self, unit: u64) -> usize
         requires { ⌜ self .count ≤ mostRunning ⌝ }
-        ensures { λ r. ⌜ r ≡ placeOf unit (unitsOf self) ⌝ }
+        ensures { λ r. ⌜ r ≡ unitPlace unit (unitsOf self) ⌝ }
     {
         let count = self.count;
         let mut i = 0;

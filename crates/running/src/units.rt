@@ -2,7 +2,7 @@
 // of them.
 ghost use mathlib.Core.Path.{_≡_};
 ghost use mathlib.Core.List.{[]};
-ghost use Rattle.judge.specs.Day.{mostRunning};
+ghost use Rattle.outcome.specs.Day.{mostRunning};
 ghost use Rattle.running.specs.View.{unitsOf};
 use tables::Kind;
 

@@ -1,4 +1,6 @@
+pub mod Computing
 pub mod OddsLaws
 pub mod PlaceLaws
+pub mod RunLaws
 pub mod ScheduleLaws
 pub mod SearchLaws

@@ -13,12 +13,13 @@ use lib.ListN.{getD, drop}
 use borrow.Author.Tests.{eq-eqb, ne-eqb}
 use Rattle.base.specs.Search.{any, firstAtOdds}
 use Rattle.base.proofs.Tests.{eq-or-ne, false-true}
-use Rattle.tables.specs.Rows.{ScheduleRow, scheduleRows}
+use Rattle.tables.specs.Rows.{ScheduleRow}
 use Rattle.tables.specs.Table.{M}
-use Rattle.cells.specs.Views.{scheduleAt}
+use Rattle.tables.specs.promises.FlatRows.{scheduleRows}
+use Rattle.cells.specs.promises.Views.{scheduleAt}
 use Rattle.cells.proofs.RowViews.{schedule-next}
-use Rattle.schedules.specs.Answers.{earlier, oddWith, alike, bothMarket}
-use Rattle.links.specs.Links.{LinkedTo, Along, unitKey, scheduleKey}
+use Rattle.schedules.specs.promises.Answers.{schedulesBefore, oddWith, alike, bothMarket}
+use Rattle.links.specs.promises.Links.{LinkedTo, Along, unitKey, scheduleKey}
 use Rattle.schedules.specs.Schedules.{sameSchedule, unlike, repeats, secondM, scheduleOdds, schedulesAtOdds}
 use Rattle.links.proofs.LinkLaws.{along-row}
 use Rattle.schedules.proofs.ScheduleLaws.{rows-end}
@@ -101,20 +102,20 @@ pub record Agreeing (n : ℕ) (cells : List ℕ) (k : ℕ) : Type 0 where
   pub upto : k ≤ n
   pub rest :
       schedulesAtOdds (scheduleRows n cells)
-      ≡ firstAtOdds scheduleOdds (earlier cells k) (suc k) (drop k (scheduleRows n cells))
+      ≡ firstAtOdds scheduleOdds (schedulesBefore cells k) (suc k) (drop k (scheduleRows n cells))
 
 module _ (n : ℕ) (cells : List ℕ) where
   pub agreeing-none : Agreeing n cells 0
-  unfolding schedulesAtOdds earlier
+  unfolding schedulesAtOdds schedulesBefore
   agreeing-none = record { upto = omega arith; rest = refl }
 
-  module _ (k : ℕ) (t : Bool) (l : Agreeing n cells k) (h : k < n) (is : t ≡ any (scheduleOdds (scheduleAt cells k)) (earlier cells k)) where
+  module _ (k : ℕ) (t : Bool) (l : Agreeing n cells k) (h : k < n) (is : t ≡ any (scheduleOdds (scheduleAt cells k)) (schedulesBefore cells k)) where
     pub agreeing-here : (x : ℕ) → t ≡ true → x ≡ k + 1 → x ≡ Option·getD (schedulesAtOdds (scheduleRows n cells)) 0
     unfolding firstAtOdds
     agreeing-here x e named = named ∙ rw (l .rest, schedule-next n cells k h, ← is, e) (add-one k)
 
     pub agreeing-next : t ≡ false → Agreeing n cells (k + 1)
-    unfolding firstAtOdds earlier
+    unfolding firstAtOdds schedulesBefore
     agreeing-next e =
         record {
           upto = omega arith;

@@ -16,11 +16,12 @@ use Rattle.base.proofs.Finds.{find-none, find-here, find-later}
 use Rattle.base.proofs.Lists.{drop-next, drop-end}
 use Rattle.base.proofs.Searches.{first-none, first-here, first-later}
 use Rattle.base.proofs.Tests.{eq-or-ne}
-use Rattle.tables.specs.Rows.{ScheduleRow, scheduleRows}
-use Rattle.cells.specs.Views.{scheduleAt}
+use Rattle.tables.specs.Rows.{ScheduleRow}
+use Rattle.tables.specs.promises.FlatRows.{scheduleRows}
+use Rattle.cells.specs.promises.Views.{scheduleAt}
 use Rattle.cells.proofs.RowViews.{schedule-next, schedule-length}
-use Rattle.schedules.specs.Answers.{lowestOf, KnownBefore}
-use Rattle.schedules.specs.Schedules.{strange}
+use Rattle.schedules.specs.promises.Answers.{lowestOf, KnownBefore}
+use Rattle.schedules.specs.Schedules.{notInSupply}
 use Rattle.schedules.specs.declared.rows.Lowest.the-variants.{Number, Nothing}
 
 numbers-next :
@@ -69,7 +70,7 @@ pub record Known (n : ℕ) (cells us : List ℕ) (k : ℕ) : Type 0 where
   pub upto : k ≤ n
   pub passed : KnownBefore us cells k
   pub rest :
-      strange us (scheduleRows n cells)
+      notInSupply us (scheduleRows n cells)
       ≡ first (λ (r : ScheduleRow). not (among (r .unit) us)) (suc k) (drop k (scheduleRows n cells))
 
 module _ (n : ℕ) (cells us : List ℕ) where
@@ -77,16 +78,16 @@ module _ (n : ℕ) (cells us : List ℕ) where
   stranger r = not (among (r .unit) us)
 
   pub known-none : Known n cells us 0
-  unfolding strange
+  unfolding notInSupply
   known-none = record { upto = omega arith; passed = λ (j : ℕ) (h : j < 0). absurd (omega arith); rest = refl }
 
   -- t says whether the next row's unit is known
   module _ (k : ℕ) (t : Bool) (l : Known n cells us k) (h : k < n) (said : t ≡ among (scheduleAt cells k .unit) us) where
-    pub known-here : (x : ℕ) → not t ≡ true → x ≡ k + 1 → x ≡ Option·getD (strange us (scheduleRows n cells)) 0
+    pub known-here : (x : ℕ) → not t ≡ true → x ≡ k + 1 → x ≡ Option·getD (notInSupply us (scheduleRows n cells)) 0
     known-here x e named =
-        let strange-row : stranger (scheduleAt cells k) ≡ true = rw (← said) e in
+        let not-in-supply-row : stranger (scheduleAt cells k) ≡ true = rw (← said) e in
         named
-        ∙ rw (l .rest, schedule-next n cells k h, first-here stranger (suc k) (scheduleAt cells k) (drop (k + 1) (scheduleRows n cells)) strange-row)
+        ∙ rw (l .rest, schedule-next n cells k h, first-here stranger (suc k) (scheduleAt cells k) (drop (k + 1) (scheduleRows n cells)) not-in-supply-row)
         (add-one k)
 
     pub known-next : not t ≡ false → Known n cells us (k + 1)
@@ -105,5 +106,5 @@ module _ (n : ℕ) (cells us : List ℕ) where
             (λ (o : j ≡ k → ⊥). l .passed j (omega arith))
             (eq-or-ne j k)
 
-  pub known-over : (k : ℕ) → Known n cells us k → n ≤ k → 0 ≡ Option·getD (strange us (scheduleRows n cells)) 0
+  pub known-over : (k : ℕ) → Known n cells us k → n ≤ k → 0 ≡ Option·getD (notInSupply us (scheduleRows n cells)) 0
   known-over k l h = rw (l .rest, rows-end n cells k h, first-none stranger (suc k))

@@ -10,13 +10,14 @@ use lib.ListN.{getD, drop}
 use borrow.Author.Tests.{eqb-true}
 use Rattle.base.specs.Rising.{among}
 use Rattle.base.specs.Search.{any}
-use Rattle.tables.specs.Rows.{ScheduleRow, scheduleRows}
-use Rattle.cells.specs.Views.{scheduleAt}
+use Rattle.tables.specs.Rows.{ScheduleRow}
+use Rattle.tables.specs.promises.FlatRows.{scheduleRows}
+use Rattle.cells.specs.promises.Views.{scheduleAt}
 use Rattle.cells.proofs.RowViews.{schedule-next}
-use Rattle.links.specs.Links.{mostLinked, Linked, LinkedTo, anyBefore, Along, unitKeys, byUnit, unitKey}
+use Rattle.links.specs.promises.Links.{mostLinked, Linked, LinkedTo, anyBefore, Along, unitKeys, byUnit, unitKey}
 use Rattle.links.proofs.LinkLaws.{along-key, linked-upto, down}
 use Rattle.numbers.proofs.NumberLaws.{one-of}
-use Rattle.schedules.specs.Answers.{earlier, KnownBefore}
+use Rattle.schedules.specs.promises.Answers.{schedulesBefore, KnownBefore}
 use Rattle.schedules.proofs.ScheduleLaws.{rows-end}
 
 -- schedule rows searched by their places
@@ -24,8 +25,8 @@ module _ (cells : List ℕ) (q : ScheduleRow → Bool) where
   abbrev at : ℕ → Bool
   at j = q (scheduleAt cells j)
 
-  pub earlier-any : (k : ℕ) → any q (earlier cells k) ≡ anyBefore at k
-  unfolding any earlier anyBefore
+  pub earlier-any : (k : ℕ) → any q (schedulesBefore cells k) ≡ anyBefore at k
+  unfolding any schedulesBefore anyBefore
   earlier-any zero = refl
   earlier-any (suc k) = rw (earlier-any k)
 

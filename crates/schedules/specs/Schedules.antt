@@ -37,8 +37,8 @@ unfoldable pub schedulesAtOdds : List ScheduleRow → Option ℕ
 schedulesAtOdds rs = firstAtOdds scheduleOdds [] 1 rs
 
 -- 7: "schedule row of a unit not in supply (its record)"
-unfoldable pub strange : List ℕ → List ScheduleRow → Option ℕ
-strange us rs = first (λ (r : ScheduleRow). not (among (r .unit) us)) 1 rs
+unfoldable pub notInSupply : List ℕ → List ScheduleRow → Option ℕ
+notInSupply us rs = first (λ (r : ScheduleRow). not (among (r .unit) us)) 1 rs
 
 -- the rows of a unit
 unfoldable pub own : ℕ → List ScheduleRow → List ScheduleRow
@@ -47,8 +47,3 @@ own u rs = those (λ (r : ScheduleRow). eqb (r .unit) u) rs
 -- 8: "unit without a schedule (file 3, lowest unit)", of units by rising number
 unfoldable pub unscheduled : List ℕ → List ScheduleRow → Option ℕ
 unscheduled us rs = find (λ (u : ℕ). not (any (λ (r : ScheduleRow). eqb (r .unit) u) rs)) us
-
--- opens all of the above, for examples that compute
-unfoldable pub schedules·all : Unit {0}
-unfolding sameSchedule unlike repeats secondM scheduleOdds schedulesAtOdds strange own unscheduled
-schedules·all = tt

@@ -2,8 +2,8 @@
 // many rows as it is said to, and nothing of the cells.
 ghost use Prim.Native.Nat.{_*_, _≤_};
 ghost use lib.ListN.{length};
-ghost use Rattle.cells.specs.Views.{scheduleWidth};
-ghost use Rattle.links.specs.Links.{mostLinked, linksLength, Unlinked, RowsLinked};
+ghost use Rattle.cells.specs.promises.Views.{scheduleWidth};
+ghost use Rattle.links.specs.promises.Links.{mostLinked, linksLength, Unlinked, RowsLinked};
 use cells::schedule::SCHEDULE;
 use cells::schedule::UNIT;
 use cells::schedule::cell;

@@ -7,11 +7,11 @@ ghost use mathlib.Core.Option.{Option·getD};
 ghost use Prim.Native.Nat.{_+_, _*_, _≤_, _<_};
 ghost use lib.ListN.{length, getD, drop};
 ghost use Rattle.base.specs.Search.{any};
-ghost use Rattle.tables.specs.Rows.{scheduleRows};
-ghost use Rattle.cells.specs.Views.{scheduleAt, scheduleWidth};
-ghost use Rattle.schedules.specs.Answers.{alike, bothMarket, earlier, oddWith};
-ghost use Rattle.links.specs.Links.{RowsLinked, LinkedTo, Along, unitLinks, unitKey, scheduleKey};
+ghost use Rattle.cells.specs.promises.Views.{scheduleAt, scheduleWidth};
+ghost use Rattle.schedules.specs.promises.Answers.{alike, bothMarket, schedulesBefore, oddWith};
+ghost use Rattle.links.specs.promises.Links.{RowsLinked, LinkedTo, Along, unitLinks, unitKey, scheduleKey};
 ghost use Rattle.schedules.specs.Schedules.{scheduleOdds, schedulesAtOdds};
+ghost use Rattle.tables.specs.promises.FlatRows.{scheduleRows};
 use cells::schedule::HOUR;
 use cells::schedule::KIND;
 use cells::schedule::MINRUN;
@@ -45,7 +45,7 @@ fn at_odds_before(cells: &[u64], k: usize, links: &[u16]) -> bool
     requires { ⌜ k * scheduleWidth + scheduleWidth ≤ length (now cells) ⌝ }
     requires { ⌜ LinkedTo (unitKey (now cells)) k (now links) ⌝ }
     requires { ⌜ LinkedTo (scheduleKey (now cells)) k (drop unitLinks (now links)) ⌝ }
-    ensures { λ r. ⌜ r ≡ any (scheduleOdds (scheduleAt (now (cells .entry)) k)) (earlier (now (cells .entry)) k) ⌝ }
+    ensures { λ r. ⌜ r ≡ any (scheduleOdds (scheduleAt (now (cells .entry)) k)) (schedulesBefore (now (cells .entry)) k) ⌝ }
 {
     if cell(cells, k, KIND) == M {
         return at_odds_along(cells, k, links);
@@ -58,7 +58,7 @@ fn at_odds_along(cells: &[u64], k: usize, links: &[u16]) -> bool
     requires { ⌜ k * scheduleWidth + scheduleWidth ≤ length (now cells) ⌝ }
     requires { ⌜ k < length (now links) ⌝ }
     requires { ⌜ Along (oddWith (now cells) k) k (now links) (getD (now links) k 0) ⌝ }
-    ensures { λ r. ⌜ r ≡ any (scheduleOdds (scheduleAt (now (cells .entry)) k)) (earlier (now (cells .entry)) k) ⌝ }
+    ensures { λ r. ⌜ r ≡ any (scheduleOdds (scheduleAt (now (cells .entry)) k)) (schedulesBefore (now (cells .entry)) k) ⌝ }
 {
     let mut left = link_at(links, k);
     while 0 < left {

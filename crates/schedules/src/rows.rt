@@ -5,11 +5,11 @@ ghost use mathlib.Core.Option.{Option·getD};
 ghost use Prim.Native.Nat.{_+_, _*_, _≤_, _<_};
 ghost use lib.ListN.{length, take};
 ghost use Rattle.base.specs.Rising.{among};
-ghost use Rattle.tables.specs.Rows.{scheduleRows};
-ghost use Rattle.cells.specs.Views.{scheduleAt, scheduleWidth};
-ghost use Rattle.schedules.specs.Answers.{lowestOf, hasRow, KnownBefore};
-ghost use Rattle.links.specs.Links.{RowsLinked, Linked, LinkedTo, unitKeys, unitKey};
-ghost use Rattle.schedules.specs.Schedules.{strange as Schedules·strange, unscheduled as Schedules·unscheduled};
+ghost use Rattle.cells.specs.promises.Views.{scheduleAt, scheduleWidth};
+ghost use Rattle.schedules.specs.promises.Answers.{lowestOf, hasRow, KnownBefore};
+ghost use Rattle.links.specs.promises.Links.{RowsLinked, Linked, LinkedTo, unitKeys, unitKey};
+ghost use Rattle.schedules.specs.Schedules.{notInSupply, unscheduled as Schedules·unscheduled};
+ghost use Rattle.tables.specs.promises.FlatRows.{scheduleRows};
 use cells::schedule::UNIT;
 use cells::schedule::cell;
 use links::ROWS;
@@ -25,11 +25,11 @@ pub enum Lowest {
 
 // 7: the first row of a unit that is not among the first `count` units, counted from 1; 0 where
 // there is none.
-pub fn strange(cells: &[u64], n: usize, links: &[u16], units: &[u64], count: usize) -> usize
+pub fn not_in_supply(cells: &[u64], n: usize, links: &[u16], units: &[u64], count: usize) -> usize
     requires { ⌜ n * scheduleWidth ≤ length (now cells) ⌝ }
     requires { ⌜ RowsLinked (now cells) n (now links) ⌝ }
     requires { ⌜ count ≤ length (now units) ⌝ }
-    ensures { λ r. ⌜ r ≡ Option·getD (Schedules·strange (take count (now (units .entry))) (scheduleRows n (now (cells .entry)))) 0 ⌝ }
+    ensures { λ r. ⌜ r ≡ Option·getD (notInSupply (take count (now (units .entry))) (scheduleRows n (now (cells .entry)))) 0 ⌝ }
 {
     let mut k = 0;
     while k < n {

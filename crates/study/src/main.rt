@@ -1,7 +1,14 @@
 // The program: studies the files of the folder that it is run in with a fresh day, and prints
 // the answer file, or why there is none. Assumes nothing of the folder. What a file holds and what is
-// printed can't be said in a contract; what a study of those bytes gives is said by `Day::study`.
+// printed can't be said in a contract; what a study of those bytes gives is said by `study_in_room`.
+ghost use mathlib.Core.Logic.{_≢_};
+ghost use Prim.Native.Nat.{_≤_};
+ghost use lib.ListN.{length};
 ghost use Rattle.io.specs.Counts.{Counts};
+ghost use Rattle.checking.specs.Files.{files};
+ghost use Rattle.engine.specs.Studying.{studyTold, studyCount};
+ghost use Rattle.longest.specs.Longest.{longest};
+ghost use Rattle.study.specs.FreshStudy.{StudiesFresh};
 use engine::Day;
 use engine::Study;
 use libc::STDOUT_FILENO;
@@ -53,17 +60,35 @@ fn read(name: &[u8], room: &mut [u8]) -> usize
     count
 }
 
-// Studies the files with room for the longest answer.
+// Studies the files with room for the longest answer, and prints the answer file or the refusal.
 fn study(constraint: &[u8], supply: &[u8], schedules: &[u8], parents: &[u8]) {
-    let mut room = [0u8; answer::LONGEST];
-    study_into(constraint, supply, schedules, parents, &mut room);
+    let mut room = [0u8; longest::LONGEST];
+    let answer = study_in_room(constraint, supply, schedules, parents, &mut room);
+    print_study(answer, &room);
 }
 
-// Studies the files, and prints the answer file or the refusal.
-fn study_into(constraint: &[u8], supply: &[u8], schedules: &[u8], parents: &[u8], room: &mut [u8]) {
+// Studies the files with a fresh day. The room holds the longest answer, so 10 is never met.
+fn study_in_room(
+    constraint: &[u8],
+    supply: &[u8],
+    schedules: &[u8],
+    parents: &[u8],
+    room: &mut [u8],
+) -> Study
+    requires { ⌜ longest ≤ length (now room) ⌝ }
+    ensures { λ r. ⌜ StudiesFresh (files (now (constraint .entry)) (now (supply .entry)) (now (schedules .entry)) (now (parents .entry))) (now (room .entry)) (now (room .exit)) r ⌝ }
+    ensures { λ r. ⌜ studyTold r .number ≢ 10 ⌝ }
+    ensures { λ r. ⌜ studyCount r ≤ length (now (room .exit)) ⌝ }
+{
     let studied = Day::fresh().study(constraint, supply, schedules, parents, room);
-    let outcome = studied.answer;
-    match outcome {
+    studied.answer
+}
+
+// Prints the answer file, which stands at the start of the room, or the refusal.
+fn print_study(answer: Study, room: &[u8])
+    requires { ⌜ studyCount answer ≤ length (now room) ⌝ }
+{
+    match answer {
         Study::Written(count) => print(&room[0..count]),
         Study::Refused(refusal) => print_refusal(refusal),
     }

@@ -13,17 +13,18 @@ use lib.Seq.{take-append-seam, length-take-le, getD-set-same, getD-set-other}
 use borrow.Author.Tests.{ltb-false, lt-ltb, le-ltb, eq-eqb, ne-eqb, eqb-true, not-false}
 use Rattle.base.specs.Rising.{inserted}
 use Rattle.base.specs.Search.{any, firstAtOdds}
-use Rattle.base.specs.Writing.{Wrote}
+use Rattle.base.specs.promises.Writing.{Wrote}
 use Rattle.base.proofs.Lists.{drop-end}
 use Rattle.base.proofs.Elements.{any-same}
 use Rattle.base.proofs.Tests.{either, eq-or-ne, and-fst, and-snd, or-fst, or-snd}
 use Rattle.numbers.specs.Numbers.{numbersFrom, numbersOf}
-use Rattle.tables.specs.Rows.{SupplyRow, supplyRows}
+use Rattle.tables.specs.Rows.{SupplyRow}
+use Rattle.tables.specs.promises.FlatRows.{supplyRows}
 use Rattle.cells.proofs.RowViews.{supply-next, supply-length}
-use Rattle.supply.specs.Supply.{units, suppliers, mostUnits, mostSuppliers, crowded, crowdedFrom, supplyOdds, supplyAtOdds}
-use Rattle.links.specs.Links.{lastSame, Unlinked, anyBefore, unitKeys}
-use Rattle.cells.specs.Views.{supplyAt}
-use Rattle.supply.specs.SupplyPromises.{Counted, tooMany, earlier, AgreeBefore, supplyKey}
+use Rattle.supply.specs.Supply.{units, suppliers, mostUnits, mostSuppliers, overLimit, overLimitFrom, supplyOdds, supplyAtOdds}
+use Rattle.links.specs.promises.Links.{lastSame, Unlinked, anyBefore, unitKeys}
+use Rattle.cells.specs.promises.Views.{supplyAt}
+use Rattle.supply.specs.promises.Rows.{Counted, tooMany, supplyBefore, AgreeBefore, supplyKey}
 use Rattle.links.proofs.LinkLaws.{last-here, last-later, last-upto, last-any, any-last}
 
 -- a run in which different numbers are laid down, `count` so far
@@ -45,14 +46,14 @@ pub record Counting (cells : List ℕ) (n : ℕ) (us₀ ss₀ us ss : List ℕ) 
   pub cells-room : n * 5 ≤ length cells
   pub units-run : Growing mostUnits us₀ us uc
   pub suppliers-run : Growing mostSuppliers ss₀ ss sc
-  pub place : crowded (supplyRows n cells) ≡ crowdedFrom (take uc us) (take sc ss) (suc k) (drop k (supplyRows n cells))
+  pub place : overLimit (supplyRows n cells) ≡ overLimitFrom (take uc us) (take sc ss) (suc k) (drop k (supplyRows n cells))
   pub all-units : units (supplyRows n cells) ≡ numbersFrom (λ (r : SupplyRow). r .unit) (take uc us) (drop k (supplyRows n cells))
   pub all-suppliers : suppliers (supplyRows n cells) ≡ numbersFrom (λ (r : SupplyRow). r .supplier) (take sc ss) (drop k (supplyRows n cells))
 
 module _ (cells : List ℕ) (n : ℕ) (us₀ ss₀ : List ℕ) where
   pub counting-none :
       n * 5 ≤ length cells → mostUnits < length us₀ → mostSuppliers < length ss₀ → Counting cells n us₀ ss₀ us₀ ss₀ 0 0 0
-  unfolding crowded units suppliers numbersOf
+  unfolding overLimit units suppliers numbersOf
   counting-none h u s =
       record {
         upto = omega arith;
@@ -73,10 +74,10 @@ module _ (cells : List ℕ) (n : ℕ) (us₀ ss₀ : List ℕ) where
       row = supply-next n cells k inside
 
       abbrev more : Option ℕ
-      more = crowdedFrom (take uc' us') (take sc' ss') (suc (k + 1)) (drop (k + 1) (supplyRows n cells))
+      more = overLimitFrom (take uc' us') (take sc' ss') (suc (k + 1)) (drop (k + 1) (supplyRows n cells))
 
-      place-next : crowded (supplyRows n cells) ≡ cond (tooMany uc' sc') (some (suc k)) more
-      unfolding crowdedFrom tooMany
+      place-next : overLimit (supplyRows n cells) ≡ cond (tooMany uc' sc') (some (suc k)) more
+      unfolding overLimitFrom tooMany
       place-next =
           so-far .place ∙ rw (row, front unit-in, front supplier-in, unit-in .counted, supplier-in .counted, add-one k)
 
@@ -112,7 +113,7 @@ module _ (cells : List ℕ) (n : ℕ) (us₀ ss₀ : List ℕ) where
           tooMany uc' sc' ≡ true →
           Counted (supplyRows n cells) us' ss' (record { place = k + 1; units = uc'; suppliers = sc' })
       counting-here t =
-          let here : crowded (supplyRows n cells) ≡ some (suc k) = place-next ∙ rw t in
+          let here : overLimit (supplyRows n cells) ≡ some (suc k) = place-next ∙ rw t in
           record {
             place = rw (here, add-one k);
             all-units = λ e. some-none (sym here ∙ e);
@@ -122,7 +123,7 @@ module _ (cells : List ℕ) (n : ℕ) (us₀ ss₀ : List ℕ) where
   pub counting-over :
       (us ss : List ℕ) (uc sc k : ℕ) → Counting cells n us₀ ss₀ us ss uc sc k → n ≤ k →
       Counted (supplyRows n cells) us ss (record { place = 0; units = uc; suppliers = sc })
-  unfolding crowdedFrom numbersFrom
+  unfolding overLimitFrom numbersFrom
   counting-over us ss uc sc k c h =
       record {
         place = rw (c .place, none-left);
@@ -175,13 +176,13 @@ module _ (r e : SupplyRow) where
 pub record Comparing (cells : List ℕ) (k left : ℕ) : Type 0 where
   pub upto : left ≤ k
   pub room : k * 5 + 5 ≤ length cells
-  pub rest : any (supplyOdds (supplyAt cells k)) (earlier cells k) ≡ any (supplyOdds (supplyAt cells k)) (earlier cells left)
+  pub rest : any (supplyOdds (supplyAt cells k)) (supplyBefore cells k) ≡ any (supplyOdds (supplyAt cells k)) (supplyBefore cells left)
 
-earlier-last : (cells : List ℕ) (k : ℕ) → 0 < k → earlier cells k ≡ supplyAt cells (k - 1) ∷ earlier cells (k - 1)
-unfolding earlier
+earlier-last : (cells : List ℕ) (k : ℕ) → 0 < k → supplyBefore cells k ≡ supplyAt cells (k - 1) ∷ supplyBefore cells (k - 1)
+unfolding supplyBefore
 earlier-last cells k h =
     let one-less : k ≡ suc (k - 1) = omega arith in
-    ap (earlier cells) one-less
+    ap (supplyBefore cells) one-less
 
 module _ (cells : List ℕ) (k : ℕ) where
   pub comparing-none : k * 5 + 5 ≤ length cells → Comparing cells k k
@@ -196,13 +197,13 @@ module _ (cells : List ℕ) (k : ℕ) where
 
   pub comparing-here :
       (left : ℕ) → Comparing cells k left → 0 < left → supplyOdds (supplyAt cells k) (supplyAt cells (left - 1)) ≡ true →
-      true ≡ any (supplyOdds (supplyAt cells k)) (earlier cells k)
+      true ≡ any (supplyOdds (supplyAt cells k)) (supplyBefore cells k)
   unfolding any
   comparing-here left c h e = sym (c .rest ∙ rw (earlier-last cells left h, e))
 
   pub comparing-over :
-      (left : ℕ) → Comparing cells k left → left ≤ 0 → false ≡ any (supplyOdds (supplyAt cells k)) (earlier cells k)
-  unfolding any earlier
+      (left : ℕ) → Comparing cells k left → left ≤ 0 → false ≡ any (supplyOdds (supplyAt cells k)) (supplyBefore cells k)
+  unfolding any supplyBefore
   comparing-over left c h =
       let over : left ≡ 0 = omega arith in
       sym (c .rest ∙ rw over)
@@ -216,8 +217,8 @@ module _ (cells : List ℕ) (k left : ℕ) (is : left ≡ lastSame (supplyKey ce
   abbrev odd : ℕ → Bool
   odd j = supplyOdds (supplyAt cells k) (supplyAt cells j)
 
-  earlier-any : (r : SupplyRow) (j : ℕ) → any (supplyOdds r) (earlier cells j) ≡ anyBefore (λ (i : ℕ). supplyOdds r (supplyAt cells i)) j
-  unfolding any earlier anyBefore
+  earlier-any : (r : SupplyRow) (j : ℕ) → any (supplyOdds r) (supplyBefore cells j) ≡ anyBefore (λ (i : ℕ). supplyOdds r (supplyAt cells i)) j
+  unfolding any supplyBefore anyBefore
   earlier-any r zero = refl
   earlier-any r (suc j) = rw (earlier-any r j)
 
@@ -226,10 +227,10 @@ module _ (cells : List ℕ) (k left : ℕ) (is : left ≡ lastSame (supplyKey ce
   alike j e =
       rw (eqb-true (supplyAt cells k .unit) (supplyAt cells j .unit) (and-fst (eqb (supplyAt cells k .unit) (supplyAt cells j .unit)) _ e))
 
-  as-last : any (supplyOdds (supplyAt cells k)) (earlier cells k) ≡ anyBefore odd left
+  as-last : any (supplyOdds (supplyAt cells k)) (supplyBefore cells k) ≡ anyBefore odd left
   as-last = earlier-any (supplyAt cells k) k ∙ last-any (supplyKey cells) odd (supplyKey cells k) alike k ∙ rw (← is)
 
-  pub last-none : left ≡ 0 → false ≡ any (supplyOdds (supplyAt cells k)) (earlier cells k)
+  pub last-none : left ≡ 0 → false ≡ any (supplyOdds (supplyAt cells k)) (supplyBefore cells k)
   unfolding anyBefore
   last-none e = sym (as-last ∙ rw e)
 
@@ -244,7 +245,7 @@ module _ (cells : List ℕ) (k left : ℕ) (is : left ≡ lastSame (supplyKey ce
 
   pub last-alone :
       0 < left → AgreeBefore cells k → supplyAt cells k .unit ≡ supplyAt cells (left - 1) .unit → (t : Bool) → t ≡ odd (left - 1) →
-      t ≡ any (supplyOdds (supplyAt cells k)) (earlier cells k)
+      t ≡ any (supplyOdds (supplyAt cells k)) (supplyBefore cells k)
   last-alone h agree unit t said = said ∙ sym (as-last ∙ any-last odd left h ∙ ⊎-elim here other (either (odd (left - 1))))
     where
       here : odd (left - 1) ≡ true → (odd (left - 1) || anyBefore odd (left - 1)) ≡ odd (left - 1)
@@ -254,7 +255,7 @@ module _ (cells : List ℕ) (k left : ℕ) (is : left ≡ lastSame (supplyKey ce
       other e =
           rw e
           (sym (earlier-any (supplyAt cells k) (left - 1))
-          ∙ any-same (supplyOdds (supplyAt cells k)) (supplyOdds (supplyAt cells (left - 1))) (earlier cells (left - 1)) (same-odds (left - 1) unit e)
+          ∙ any-same (supplyOdds (supplyAt cells k)) (supplyOdds (supplyAt cells (left - 1))) (supplyBefore cells (left - 1)) (same-odds (left - 1) unit e)
           ∙ agree (left - 1) (omega (arith, keyed-upto cells k left is)))
 
 -- n rows, of which the first k are at odds with none, and each key has its last row
@@ -265,11 +266,11 @@ pub record Agreeing (cells : List ℕ) (n : ℕ) (old last : List ℕ) (k : ℕ)
   pub same-length : length last ≡ length old
   pub agree : AgreeBefore cells k
   pub keys : (x : ℕ) → x < unitKeys → getD last x 0 ≡ lastSame (supplyKey cells) x k
-  pub rest : supplyAtOdds (supplyRows n cells) ≡ firstAtOdds supplyOdds (earlier cells k) (suc k) (drop k (supplyRows n cells))
+  pub rest : supplyAtOdds (supplyRows n cells) ≡ firstAtOdds supplyOdds (supplyBefore cells k) (suc k) (drop k (supplyRows n cells))
 
 module _ (cells : List ℕ) (n : ℕ) (old : List ℕ) where
   pub agreeing-none : n * 5 ≤ length cells → unitKeys ≤ length old → Unlinked old → Agreeing cells n old old 0
-  unfolding supplyAtOdds earlier lastSame
+  unfolding supplyAtOdds supplyBefore lastSame
   agreeing-none h room unlinked =
       record {
         upto = omega arith;
@@ -285,7 +286,7 @@ module _ (cells : List ℕ) (n : ℕ) (old : List ℕ) where
   pub last-keyed : {last : List ℕ} {k : ℕ} (x : ℕ) → Agreeing cells n old last k → x ≡ supplyKey cells k → x < unitKeys → getD last x 0 ≡ lastSame (supplyKey cells) (supplyKey cells k) k
   last-keyed x a key one = a .keys x one ∙ rw key
 
-  module _ (last : List ℕ) (k : ℕ) (t : Bool) (a : Agreeing cells n old last k) (h : k < n) (is : t ≡ any (supplyOdds (supplyAt cells k)) (earlier cells k)) where
+  module _ (last : List ℕ) (k : ℕ) (t : Bool) (a : Agreeing cells n old last k) (h : k < n) (is : t ≡ any (supplyOdds (supplyAt cells k)) (supplyBefore cells k)) where
     -- the row's key is x
     pub agreeing-next :
         (x y : ℕ) → t ≡ false → x ≡ supplyKey cells k → x < unitKeys → y ≡ k + 1 → Agreeing cells n old (set last x y) (k + 1)
@@ -297,7 +298,7 @@ module _ (cells : List ℕ) (n : ℕ) (old : List ℕ) where
           same-length = length-set last x y ∙ a .same-length;
           agree = agree-next;
           keys = keys-next;
-          rest = a .rest ∙ (unfold firstAtOdds earlier in rw (supply-next n cells k h, ← is, e, add-one k));
+          rest = a .rest ∙ (unfold firstAtOdds supplyBefore in rw (supply-next n cells k h, ← is, e, add-one k));
         }
       where
         agree-next : AgreeBefore cells (k + 1)

@@ -12,8 +12,8 @@ use Rattle.base.specs.Rising.{among, RisingFrom, inserted}
 use Rattle.base.specs.Search.{any, first, firstAtOdds, All}
 use Rattle.numbers.proofs.NumberLaws.{numbers-above, among-numbers}
 use Rattle.tables.specs.Rows.{SupplyRow}
-use Rattle.supply.specs.Supply.{units, crowded, crowdedFrom, supplyOdds, supplyAtOdds}
-use Rattle.supply.specs.SupplyPromises.{tooMany}
+use Rattle.supply.specs.Supply.{units, overLimit, overLimitFrom, supplyOdds, supplyAtOdds}
+use Rattle.supply.specs.promises.Rows.{tooMany}
 
 pub units-rising : {rs : List SupplyRow} → All (λ (r : SupplyRow). 1 ≤ r .unit) rs → RisingFrom 0 (units rs)
 unfolding units
@@ -30,19 +30,19 @@ no-place :
 no-place true k more h e = absurd (omega arith)
 no-place false k more h e = h e
 
-crowded-from-none :
-    (us ss : List ℕ) (k : ℕ) (rs : List SupplyRow) → Option·getD (crowdedFrom us ss (suc k) rs) 0 ≡ 0 →
-    crowdedFrom us ss (suc k) rs ≡ none
-unfolding crowdedFrom tooMany
-crowded-from-none us ss k [] e = refl
-crowded-from-none us ss k (r ∷ rs) e =
+over-limit-from-none :
+    (us ss : List ℕ) (k : ℕ) (rs : List SupplyRow) → Option·getD (overLimitFrom us ss (suc k) rs) 0 ≡ 0 →
+    overLimitFrom us ss (suc k) rs ≡ none
+unfolding overLimitFrom tooMany
+over-limit-from-none us ss k [] e = refl
+over-limit-from-none us ss k (r ∷ rs) e =
     let us' = inserted (r .unit) us in
     let ss' = inserted (r .supplier) ss in
-    no-place (tooMany (length us') (length ss')) k (crowdedFrom us' ss' (suc (suc k)) rs) (crowded-from-none us' ss' (suc k) rs) e
+    no-place (tooMany (length us') (length ss')) k (overLimitFrom us' ss' (suc (suc k)) rs) (over-limit-from-none us' ss' (suc k) rs) e
 
-pub crowded-none : (rs : List SupplyRow) → Option·getD (crowded rs) 0 ≡ 0 → crowded rs ≡ none
-unfolding crowded
-crowded-none rs e = crowded-from-none [] [] 0 rs e
+pub over-limit-none : (rs : List SupplyRow) → Option·getD (overLimit rs) 0 ≡ 0 → overLimit rs ≡ none
+unfolding overLimit
+over-limit-none rs e = over-limit-from-none [] [] 0 rs e
 
 module _ {A : Type 0} (odds : A → A → Bool) where
   pub at-odds-none :

@@ -1,2 +1,2 @@
 pub mod Supply
-pub mod SupplyPromises
+pub mod promises

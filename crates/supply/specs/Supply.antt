@@ -26,14 +26,14 @@ unfoldable pub suppliers : List SupplyRow → List ℕ
 suppliers rs = numbersOf (λ (r : SupplyRow). r .supplier) rs
 
 -- 5: "a 65th unit or 33rd supplier in supply (its record)". Of the rows before, us are the units and ss the suppliers
-unfoldable pub crowdedFrom : List ℕ → List ℕ → ℕ → List SupplyRow → Option ℕ
-crowdedFrom us ss k [] = none
-crowdedFrom us ss k (r ∷ rs) =
-    let more = crowdedFrom (inserted (r .unit) us) (inserted (r .supplier) ss) (suc k) rs in
+unfoldable pub overLimitFrom : List ℕ → List ℕ → ℕ → List SupplyRow → Option ℕ
+overLimitFrom us ss k [] = none
+overLimitFrom us ss k (r ∷ rs) =
+    let more = overLimitFrom (inserted (r .unit) us) (inserted (r .supplier) ss) (suc k) rs in
     cond (ltb mostUnits (length (inserted (r .unit) us)) || ltb mostSuppliers (length (inserted (r .supplier) ss))) (some k) more
 
-unfoldable pub crowded : List SupplyRow → Option ℕ
-crowded rs = crowdedFrom [] [] 1 rs
+unfoldable pub overLimit : List SupplyRow → Option ℕ
+overLimit rs = overLimitFrom [] [] 1 rs
 
 -- 6: "Rows of one unit share supplier and dfax."
 unfoldable pub supplyOdds : SupplyRow → SupplyRow → Bool
@@ -42,8 +42,3 @@ supplyOdds r e = eqb (r .unit) (e .unit) && not (eqb (r .supplier) (e .supplier)
 -- "first record at odds with an earlier one"
 unfoldable pub supplyAtOdds : List SupplyRow → Option ℕ
 supplyAtOdds rs = firstAtOdds supplyOdds [] 1 rs
-
--- opens all of the above, for examples that compute
-unfoldable pub supply·all : Unit {0}
-unfolding units suppliers crowdedFrom crowded supplyOdds supplyAtOdds
-supply·all = tt

@@ -2,5 +2,5 @@
 mod rows;
 
 pub use rows::Counts;
-pub use rows::crowd;
+pub use rows::over_limit;
 pub use rows::supply_at_odds;

@@ -6,11 +6,11 @@ ghost use mathlib.Core.Option.{Option·getD};
 ghost use Prim.Native.Nat.{_+_, _*_, _≤_, _<_};
 ghost use lib.ListN.{length};
 ghost use Rattle.base.specs.Search.{any};
-ghost use Rattle.tables.specs.Rows.{supplyRows};
-ghost use Rattle.links.specs.Links.{lastSame, Unlinked, unitKeys};
+ghost use Rattle.links.specs.promises.Links.{lastSame, Unlinked, unitKeys};
 ghost use Rattle.supply.specs.Supply.{mostUnits, mostSuppliers, supplyOdds, supplyAtOdds};
-ghost use Rattle.cells.specs.Views.{supplyWidth, supplyAt};
-ghost use Rattle.supply.specs.SupplyPromises.{Counted, tooMany, earlier, AgreeBefore, supplyKey};
+ghost use Rattle.cells.specs.promises.Views.{supplyWidth, supplyAt};
+ghost use Rattle.supply.specs.promises.Rows.{Counted, tooMany, supplyBefore, AgreeBefore, supplyKey};
+ghost use Rattle.tables.specs.promises.FlatRows.{supplyRows};
 use cells::supply::DFAX;
 use cells::supply::SUPPLIER;
 use cells::supply::UNIT;
@@ -35,7 +35,7 @@ pub struct Counts {
 
 // Counts the units and the suppliers of n rows, as far as the first record that brings one too many,
 // and lays them down by rising number.
-pub fn crowd(cells: &[u64], n: usize, units: &mut [u64], suppliers: &mut [u64]) -> Counts
+pub fn over_limit(cells: &[u64], n: usize, units: &mut [u64], suppliers: &mut [u64]) -> Counts
     requires { ⌜ (n * supplyWidth ≤ length (now cells)) × (mostUnits < length (now units)) × (mostSuppliers < length (now suppliers)) ⌝ }
     ensures { λ r. ⌜ Counted (supplyRows n (now (cells .entry))) (now (units .exit)) (now (suppliers .exit)) r ⌝ }
 {
@@ -108,7 +108,7 @@ fn at_odds_with_last(cells: &[u64], k: usize, left: usize) -> bool
     requires { ⌜ left ≤ k ⌝ }
     requires { ⌜ left ≡ lastSame (supplyKey (now cells)) (supplyKey (now cells) k) k ⌝ }
     requires { ⌜ AgreeBefore (now cells) k ⌝ }
-    ensures { λ r. ⌜ r ≡ any (supplyOdds (supplyAt (now (cells .entry)) k)) (earlier (now (cells .entry)) k) ⌝ }
+    ensures { λ r. ⌜ r ≡ any (supplyOdds (supplyAt (now (cells .entry)) k)) (supplyBefore (now (cells .entry)) k) ⌝ }
 {
     if left == 0 {
         return false;
@@ -123,7 +123,7 @@ fn at_odds_with_last(cells: &[u64], k: usize, left: usize) -> bool
 // Whether the row at k is at odds with one before it.
 fn at_odds_with_earlier(cells: &[u64], k: usize) -> bool
     requires { ⌜ k * supplyWidth + supplyWidth ≤ length (now cells) ⌝ }
-    ensures { λ r. ⌜ r ≡ any (supplyOdds (supplyAt (now (cells .entry)) k)) (earlier (now (cells .entry)) k) ⌝ }
+    ensures { λ r. ⌜ r ≡ any (supplyOdds (supplyAt (now (cells .entry)) k)) (supplyBefore (now (cells .entry)) k) ⌝ }
 {
     let mut left = k;
     while 0 < left {

@@ -13,24 +13,15 @@ use borrow.Author.Tests.{leb-true, eqb-true}
 use Rattle.base.specs.Search.{first, All, all-none, all-more}
 use Rattle.base.proofs.Searches.{first-of-none, option-map-none, first-none-all}
 use Rattle.base.proofs.Tests.{and-fst, and-snd}
-use Rattle.csv.specs.Reading.{records}
-use Rattle.tables.specs.Ranges.{PermittedCells}
-use Rattle.tables.specs.Reading.{
-  refused,
-  rows,
-  sameFields,
-  misfit,
-  miscount,
-  malformed,
-  irregular,
-  misshapen,
-  refusal,
-  laid,
-}
-use Rattle.tables.specs.Rows.{rowsOf}
+use Rattle.csv.specs.Records.{records}
+use Rattle.tables.specs.promises.Ranges.{PermittedCells}
+use Rattle.tables.specs.Reading.{rows, sameFields, misfit, miscount, malformed, irregular, misshapen, refusal}
 use Rattle.tables.specs.Table.{Column, table, header, width}
-use Rattle.tables.specs.Values.{cells, allCells, wellFormed}
+use Rattle.tables.specs.Values.{cells, wellFormed}
 use Rattle.tables.specs.declared.files.File.{File}
+use Rattle.tables.specs.Refusals.{refused}
+use Rattle.tables.specs.promises.Answers.{laid, allCells}
+use Rattle.tables.specs.promises.FlatRows.{rowsOf}
 use Rattle.tables.proofs.Permitted.{row-permitted}
 use Rattle.tables.proofs.RowLaws.{cells-length}
 

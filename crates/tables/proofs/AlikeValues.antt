@@ -8,12 +8,12 @@ use mathlib.Core.Option.{Option, none}
 use native.Mathlib.Omega.{arith}
 use lib.Dec.{eqb}
 use borrow.Author.Tests.{eqb-false, ne-eqb, not-true}
-use Rattle.base.specs.Search.{leading}
 use Rattle.base.specs.Text.{same}
 use Rattle.base.proofs.Tests.{and-fst, and-snd}
-use Rattle.csv.specs.Grammar.{DQUOTE}
+use Rattle.base.specs.promises.Counting.{leading}
 use Rattle.csv.proofs.Walk.{Alike}
 use Rattle.csv.proofs.Texts.{Alikes, no-field, field, AlikeRecords, no-record, record-of}
+use Rattle.csv.specs.Bytes.{DQUOTE}
 use Rattle.numeral.specs.Numeral.{number, within}
 use Rattle.numeral.proofs.Laws.{no-numeral-around}
 use Rattle.tables.specs.declared.files.File.{File}

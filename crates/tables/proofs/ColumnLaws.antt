@@ -9,24 +9,11 @@ use lib.ListN.{getD, List·getD-map}
 use borrow.Author.Tests.{le-leb, lt-leb}
 use Rattle.base.proofs.Lists.{allAtMost, at-most}
 use Rattle.numeral.specs.declared.Answer.{Answer}
-use Rattle.numeral.specs.Answers.{answer}
+use Rattle.numeral.specs.promises.Answers.{numeralAnswer}
 use Rattle.numeral.specs.Numeral.{number, within}
-use Rattle.tables.specs.Ranges.{inColumn}
-use Rattle.tables.specs.Table.{
-  Form,
-  numeral,
-  signed,
-  letter,
-  Column,
-  column,
-  allColumns,
-  constraintColumns,
-  supplyColumns,
-  schedulesColumns,
-  parentsColumns,
-  columnAt,
-}
-use Rattle.tables.specs.Values.{value, inForm, excess, oneOf}
+use Rattle.tables.specs.Table.{Form, numeral, signed, letter, Column, column, constraintColumns, supplyColumns, schedulesColumns, parentsColumns}
+use Rattle.tables.specs.Values.{value, inForm, excess, oneOf, inColumn}
+use Rattle.tables.specs.promises.Columns.{allColumns, columnAt}
 
 -- the code's numbers for forms
 abbrev pub formNumber : Form → ℕ
@@ -117,18 +104,18 @@ module _ (c : Column) (t : List ℕ) where
 -- the same by a column's place in the code's tables
 module _ (i : ℕ) (t : List ℕ) {r : Answer} where
   pub cell-numeral :
-      getD forms i 0 ≡ 0 → r ≡ answer (within (getD minima i 0) (getD maxima i 0) (number t)) → r ≡ answer (value (columnAt i) t)
+      getD forms i 0 ≡ 0 → r ≡ numeralAnswer (within (getD minima i 0) (getD maxima i 0) (number t)) → r ≡ numeralAnswer (value (columnAt i) t)
   cell-numeral f e =
-      (rw (minimum-at i, maximum-at i) at e) ∙ ap answer (value-numeral (columnAt i) t (sym (form-at i) ∙ f))
+      (rw (minimum-at i, maximum-at i) at e) ∙ ap numeralAnswer (value-numeral (columnAt i) t (sym (form-at i) ∙ f))
 
   pub cell-signed :
-      getD forms i 0 ≡ 1 → r ≡ answer (excess (getD minima i 0) (getD maxima i 0) t) → r ≡ answer (value (columnAt i) t)
+      getD forms i 0 ≡ 1 → r ≡ numeralAnswer (excess (getD minima i 0) (getD maxima i 0) t) → r ≡ numeralAnswer (value (columnAt i) t)
   cell-signed f e =
-      (rw (minimum-at i, maximum-at i) at e) ∙ ap answer (value-signed (columnAt i) t (sym (form-at i) ∙ f))
+      (rw (minimum-at i, maximum-at i) at e) ∙ ap numeralAnswer (value-signed (columnAt i) t (sym (form-at i) ∙ f))
 
   pub cell-letter :
-      (getD forms i 0 ≡ 0 → ⊥) → (getD forms i 0 ≡ 1 → ⊥) → r ≡ answer (oneOf (getD minima i 0) (getD maxima i 0) t) →
-      r ≡ answer (value (columnAt i) t)
+      (getD forms i 0 ≡ 0 → ⊥) → (getD forms i 0 ≡ 1 → ⊥) → r ≡ numeralAnswer (oneOf (getD minima i 0) (getD maxima i 0) t) →
+      r ≡ numeralAnswer (value (columnAt i) t)
   cell-letter n m e =
       (rw (minimum-at i, maximum-at i) at e)
-      ∙ ap answer (value-letter (columnAt i) t (λ z. n (form-at i ∙ z)) (λ z. m (form-at i ∙ z)))
+      ∙ ap numeralAnswer (value-letter (columnAt i) t (λ z. n (form-at i ∙ z)) (λ z. m (form-at i ∙ z)))

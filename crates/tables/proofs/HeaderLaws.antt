@@ -8,9 +8,9 @@ use lib.ListN.{length, take, drop, length-drop}
 use lib.Seq.{drop-drop}
 use Rattle.base.specs.Text.{same}
 use Rattle.base.proofs.Lists.{drop-back, rest-lent}
-use Rattle.csv.specs.Fields.{extent, inner, unread, texts, passed}
+use Rattle.csv.specs.promises.Fields.{extent, inner, unread, texts, passed}
 use Rattle.tables.specs.Reading.{sameFields}
-use Rattle.tables.specs.Laying.{FieldsCompared, HeaderRead}
+use Rattle.tables.specs.promises.Laying.{FieldsCompared, HeaderRead}
 use Rattle.tables.specs.Table.{header, joined, headerText, width, constraintColumns, supplyColumns, schedulesColumns, parentsColumns}
 use Rattle.tables.proofs.RowLaws.{texts-next, passed-next}
 use Rattle.tables.specs.declared.files.File.{File}

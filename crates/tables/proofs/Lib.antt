@@ -1,6 +1,7 @@
 pub mod Accepted
 pub mod AlikeValues
 pub mod ColumnLaws
+pub mod Computing
 pub mod Forms
 pub mod HeaderLaws
 pub mod Permitted

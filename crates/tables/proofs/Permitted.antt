@@ -13,7 +13,7 @@ use Rattle.base.specs.Text.{same}
 use Rattle.base.proofs.Tests.{and-fst, and-snd, false-true}
 use Rattle.numeral.specs.Numeral.{number, within}
 use Rattle.numeral.proofs.Laws.{within-some}
-use Rattle.tables.specs.Ranges.{
+use Rattle.tables.specs.promises.Ranges.{
   permits,
   PermittedCells,
   none as no-cell,

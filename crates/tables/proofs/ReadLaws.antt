@@ -10,39 +10,30 @@ use native.Mathlib.Nat.{mul-le-mul-right}
 use lib.Dec.{eqb}
 use lib.ListN.{length, take, drop, length-map}
 use borrow.Author.Tests.{eq-eqb, ne-eqb, le-leb, lt-leb}
-use Rattle.base.specs.Search.{leading, firstOf}
+use Rattle.base.specs.Search.{firstOf}
 use Rattle.base.proofs.Lists.{rest-lent}
 use Rattle.base.proofs.Searches.{first-leading, leading-le}
 use Rattle.base.proofs.Tests.{either, and-snd, false-true}
 use Rattle.base.specs.Text.{same}
-use Rattle.csv.specs.Reading.{begin, rfc4180, records, rest}
-use Rattle.csv.specs.Fields.{texts, recordTexts}
-use Rattle.csv.specs.Scan.{fitting, scanned}
+use Rattle.base.specs.promises.Counting.{leading}
+use Rattle.csv.specs.Records.{begin, rfc4180, records, rest}
+use Rattle.csv.specs.promises.Fields.{texts, recordTexts}
+use Rattle.csv.specs.promises.Scan.{fitting, scanned}
 use Rattle.csv.specs.declared.scanning.Shape.{Shape}
 use Rattle.csv.specs.declared.scanning.Shape.the-variants.{Regular, Irregular}
 use Rattle.csv.proofs.Decides.{read-file}
 use Rattle.csv.proofs.Texts.{fitting-first, fitting-tail, first-record, left-records, Alikes, AlikeRecords}
 use Rattle.tables.specs.Table.{Column, table, header, width}
-use Rattle.tables.specs.Values.{allCells, cells, wellFormed}
-use Rattle.tables.specs.Reading.{
-  refused,
-  rows,
-  sameFields,
-  misfit,
-  miscount,
-  malformed,
-  irregular,
-  misshapen,
-  refusal,
-  reading,
-  laid,
-}
-use Rattle.tables.specs.Laying.{HeaderRead, RowsLaid, FileRead, Shaped, Counted, room}
+use Rattle.tables.specs.Values.{cells, wellFormed}
+use Rattle.tables.specs.Reading.{rows, sameFields, misfit, miscount, malformed, irregular, misshapen, refusal}
+use Rattle.tables.specs.promises.Laying.{HeaderRead, RowsLaid, FileRead, Shaped, RowsCounted, room}
 use Rattle.tables.proofs.AlikeValues.{header-alike, rows-alike, leading-alike}
 use Rattle.tables.specs.declared.files.File.{File}
 use Rattle.tables.specs.declared.files.Refusal.{Refusal}
 use Rattle.tables.specs.declared.files.Reading.the-variants.{Rows, Refused}
 use Rattle.tables.specs.declared.headers.Header.{Header}
+use Rattle.tables.specs.Refusals.{refused}
+use Rattle.tables.specs.promises.Answers.{reading, laid, allCells}
 
 module _ (f : File) (s : List ℕ) where
   -- the shape of a file, refusal by refusal
@@ -222,7 +213,7 @@ module _ (f : File) (s : List ℕ) where
           (rw (h .fits, records-apart s)
           (misfit-row f (headOf s) (rows s) (same-header ∙ e) (rw (← records-apart s) (omega (arith, h .fits, h .counted, ap length (records-apart s)))))))
 
-      pub shaped-counted : r .same ≡ true → n ≤ fit → Counted f s (r .next) (n - 1)
+      pub shaped-counted : r .same ≡ true → n ≤ fit → RowsCounted f s (r .next) (n - 1)
       shaped-counted e l =
           record {
             regular = h .regular;
@@ -235,7 +226,7 @@ module _ (f : File) (s : List ℕ) where
             counted = omega (arith, h .counted, ap length (records-apart s));
           }
 
-  module _ (start count : ℕ) (h : Counted f s start count) where
+  module _ (start count : ℕ) (h : RowsCounted f s start count) where
     pub read-few : (old : List ℕ) → count < table f .fewestRows → FileRead f s old old (Refused (refused 4 f 0))
     unfolding miscount
     read-few old l =

@@ -9,35 +9,23 @@ use native.Mathlib.Numerals.{add-one}
 use lib.ListN.{length, take, drop, set, length-drop, length-take, length-set, length-append, take-append-drop}
 use lib.Seq.{drop-drop, getD-drop, getD-take, take-suc-set, drop-set-lt, append-snoc, take-at, drop-at, length-take-le}
 use lib.Dec.{eqb}
-use Rattle.base.specs.Search.{one, leading}
 use Rattle.base.proofs.Searches.{joined, joined-none, joined-more, one-le}
 use Rattle.base.proofs.Lists.{drop-next, drop-end, drop-back, rest-lent, rest-back}
-use Rattle.csv.specs.Fields.{extent, inner, unread, texts, passed, recordTexts}
+use Rattle.base.specs.promises.Counting.{one, leading}
+use Rattle.csv.specs.promises.Fields.{extent, inner, unread, texts, passed, recordTexts}
 use Rattle.numeral.specs.declared.Answer.{Answer}
 use Rattle.numeral.specs.declared.Answer.the-variants.{Number, Refused}
-use Rattle.numeral.specs.Answers.{answer}
+use Rattle.numeral.specs.promises.Answers.{numeralAnswer}
 use Rattle.numeral.proofs.Laws.{answer-number, answer-refused}
-use Rattle.tables.specs.Table.{
-  columnCount,
-  Column,
-  column,
-  numeral,
-  allColumns,
-  constraintColumns,
-  supplyColumns,
-  schedulesColumns,
-  parentsColumns,
-  columnAt,
-  table,
-  firstColumn,
-  width,
-}
-use Rattle.tables.specs.Values.{value, isSome, cells, allCells, wellFormed}
-use Rattle.tables.specs.Laying.{FieldRead, RowLaid, RowsLaid}
+use Rattle.tables.specs.Table.{Column, column, numeral, constraintColumns, supplyColumns, schedulesColumns, parentsColumns, table, width}
+use Rattle.tables.specs.Values.{value, isSome, cells, wellFormed}
+use Rattle.tables.specs.promises.Laying.{FieldRead, RowLaid, RowsLaid}
 use Rattle.tables.specs.declared.files.File.{File}
 use Rattle.tables.specs.declared.files.File.the-variants.{Constraint, Supply, Schedules, Parents}
 use Rattle.tables.specs.declared.rows.Field.{Field}
 use Rattle.tables.specs.declared.rows.Row.{Row}
+use Rattle.tables.specs.promises.Answers.{allCells}
+use Rattle.tables.specs.promises.Columns.{allColumns, columnCount, firstColumn, columnAt}
 
 -- some columns that stand side by side in the table of all files
 unfoldable pub part : ℕ → ℕ → List Column
@@ -201,7 +189,7 @@ laying-over f s old new rest good c l h =
 -- a field by its parts: its length n, its text, its cell, and what follows
 module _
     (column : ℕ) (s text : List ℕ) (n next : ℕ) {a : Answer} (reaches : n ≡ extent false s)
-    (is : text ≡ inner (take (n - 0) s)) (read : a ≡ answer (value (columnAt column) text))
+    (is : text ≡ inner (take (n - 0) s)) (read : a ≡ numeralAnswer (value (columnAt column) text))
     (follows : drop next s ≡ unread s n) (inside : next ≤ length s)
   where
     field-value : value (columnAt column) (inner (take (extent false s) s)) ≡ value (columnAt column) text

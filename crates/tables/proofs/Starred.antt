@@ -3,15 +3,15 @@
 use Prim.Native.Nat.{ℕ}
 use mathlib.Core.Path.{_≡_, refl}
 use mathlib.Core.List.{List, [], _∷_}
-use Rattle.base.specs.Search.{search·all}
 use Rattle.base.specs.Text.{bytes, same}
-use Rattle.csv.specs.Reading.{reading·all}
-use Rattle.numeral.specs.Numeral.{numeral·all}
-use Rattle.tables.specs.Table.{M, C, table·all}
-use Rattle.tables.specs.Values.{values·all}
-use Rattle.tables.specs.Reading.{reading, laid, tableReading·all}
+use Rattle.base.proofs.Computing.{search·all}
+use Rattle.tables.specs.Table.{M, C}
 use Rattle.tables.specs.declared.files.Reading.the-variants.{Rows}
 use Rattle.tables.specs.declared.files.File.the-variants.{Constraint, Supply, Schedules}
+use Rattle.tables.specs.promises.Answers.{reading, laid}
+use Rattle.csv.proofs.Computing.{reading·all}
+use Rattle.numeral.proofs.Computing.{numeral·all}
+use Rattle.tables.proofs.Computing.{tableReading·all, table·all, values·all}
 
 abbrev pub constraintFile : List ℕ
 constraintFile = bytes "hour,relief,cutoff\r\n5,1000,300\r\n"

@@ -1,6 +1,6 @@
-pub mod Laying
-pub mod Ranges
 pub mod Reading
+pub mod Refusals
 pub mod Rows
 pub mod Table
 pub mod Values
+pub mod promises

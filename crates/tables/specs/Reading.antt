@@ -8,17 +8,12 @@ use lib.Dec.{eqb, leb}
 use lib.ListN.{length, drop}
 use Rattle.base.specs.Search.{first, firstOf}
 use Rattle.base.specs.Text.{same}
-use Rattle.csv.specs.Reading.{rfc4180, records}
+use Rattle.csv.specs.Records.{rfc4180, records}
 use Rattle.tables.specs.Table.{table, header, width}
-use Rattle.tables.specs.Values.{allCells, wellFormed}
+use Rattle.tables.specs.Values.{wellFormed}
 use Rattle.tables.specs.declared.files.File.{File}
 use Rattle.tables.specs.declared.files.Refusal.{Refusal}
-use Rattle.tables.specs.declared.files.Reading.{Reading}
-use Rattle.tables.specs.declared.files.Reading.the-variants.{Rows, Refused}
-
--- refusal n of a file at a place
-abbrev pub refused : ℕ → File → ℕ → Refusal
-refused n f place = record { number = n; file = table f .number; place = place }
+use Rattle.tables.specs.Refusals.{refused}
 
 -- what stands behind the header
 unfoldable pub rows : List ℕ → List (List (List ℕ))
@@ -62,23 +57,3 @@ misshapen f s =
 -- the first refusal of reading a file: 1, 2, 4, 3
 unfoldable pub refusal : File → List ℕ → Option Refusal
 refusal f s = firstOf (misshapen f s ∷ Option·map (refused 3 f) (malformed f (rows s)) ∷ [])
-
-unfoldable pub reading : File → List ℕ → Reading
-reading f s = answer (refusal f s)
-  where
-    answer : Option Refusal → Reading
-    answer none = Rows (length (rows s))
-    answer (some r) = Refused r
-
--- the cells that reading lays down: every row's, unless the file is misshapen
-unfoldable pub laid : File → List ℕ → List ℕ
-laid f s = lay (misshapen f s)
-  where
-    lay : Option Refusal → List ℕ
-    lay none = allCells (table f .columns) (rows s)
-    lay (some r) = []
-
--- opens all of the above, for examples that compute
-unfoldable pub tableReading·all : Unit {0}
-unfolding rows sameFields misfit miscount malformed irregular misshapen refusal reading laid
-tableReading·all = tt

@@ -1,10 +1,10 @@
 -- The rows of the files by the names of their columns, as cells hold them: dfax in excess of 10000, so that -10000
--- is 0, and a kind as its letter. And rows out of a flat run of cells, one row behind the other. Assumes nothing.
-use Prim.Native.Nat.{ℕ, zero, suc, _+_, _-_}
+-- is 0, and a kind as its letter. Assumes nothing.
+use Prim.Native.Nat.{ℕ, _+_, _-_}
 use mathlib.Core.Bool.{cond}
-use mathlib.Core.List.{List, [], _∷_, map}
+use mathlib.Core.List.{List}
 use lib.Dec.{eqb}
-use lib.ListN.{getD, take, drop}
+use lib.ListN.{getD}
 use Rattle.tables.specs.Table.{M, C}
 use Rattle.tables.specs.declared.constraint.ConstraintRow.{ConstraintRow}
 use Rattle.tables.specs.declared.files.Kind.{Kind}
@@ -33,18 +33,22 @@ pub record ParentRow : Type 0 where
   pub supplier : ℕ
   pub parent : ℕ
 
+-- a row of the answer, with verdict and kind as their letters
+pub record AnswerRow : Type 0 where
+  pub unit : ℕ
+  pub supplier : ℕ
+  pub verdict : ℕ
+  pub left : ℕ
+  pub schedule : ℕ
+  pub kind : ℕ
+  pub cost : ℕ
+
 abbrev pub constraintRow : List ℕ → ConstraintRow
 constraintRow cs = record { hour = getD cs 0 0; relief = getD cs 1 0; cutoff = getD cs 2 0 }
 
 abbrev pub supplyRow : List ℕ → SupplyRow
 supplyRow cs =
-    record {
-      unit = getD cs 0 0;
-      supplier = getD cs 1 0;
-      mw = getD cs 2 0;
-      cost = getD cs 3 0;
-      dfax = getD cs 4 0;
-    }
+    record { unit = getD cs 0 0; supplier = getD cs 1 0; mw = getD cs 2 0; cost = getD cs 3 0; dfax = getD cs 4 0 }
 
 abbrev pub scheduleRow : List ℕ → ScheduleRow
 scheduleRow cs =
@@ -63,23 +67,9 @@ scheduleRow cs =
 abbrev pub parentRow : List ℕ → ParentRow
 parentRow cs = record { supplier = getD cs 0 0; parent = getD cs 1 0 }
 
--- the first n rows of w cells each
-unfoldable pub rowsOf : ℕ → ℕ → List ℕ → List (List ℕ)
-rowsOf w zero cs = []
-rowsOf w (suc n) cs = take w cs ∷ rowsOf w n (drop w cs)
-
-unfoldable pub supplyRows : ℕ → List ℕ → List SupplyRow
-supplyRows n cs = map supplyRow (rowsOf 5 n cs)
-
-unfoldable pub scheduleRows : ℕ → List ℕ → List ScheduleRow
-scheduleRows n cs = map scheduleRow (rowsOf 9 n cs)
-
-unfoldable pub parentRows : ℕ → List ℕ → List ParentRow
-parentRows n cs = map parentRow (rowsOf 2 n cs)
-
 -- |dfax| of a cell
-unfoldable pub size : ℕ → ℕ
-size d = (d - 10000) + (10000 - d)
+unfoldable pub magnitude : ℕ → ℕ
+magnitude d = (d - 10000) + (10000 - d)
 
 -- the kind of a cell, and the cell of a kind
 unfoldable pub kindOf : ℕ → Kind

@@ -4,10 +4,11 @@
 use Prim.Native.Nat.{ℕ}
 use Prim.Native.String.{String}
 use mathlib.Core.List.{List, [], _∷_, _++_, map}
-use lib.ListN.{length, getD}
+use lib.ListN.{length}
 use Rattle.base.specs.Text.{bytes}
 use Rattle.tables.specs.declared.files.File.{File}
 use Rattle.tables.specs.declared.files.File.the-variants.{Constraint, Supply, Schedules, Parents}
+use Rattle.csv.specs.Bytes.{COMMA, CR, LF}
 
 -- what a field may hold
 pub data Form : Type 0 where
@@ -48,18 +49,30 @@ highestSupplier = 999
 abbrev pub highestCost : ℕ
 highestCost = 200000
 
--- Behind each column its unit of measure.
+-- the columns that files share, and that a day's numbers have; behind each its unit of measure
+abbrev pub hourColumn : Column
+hourColumn = column "hour" numeral 0 latestHour  -- hours
+
+abbrev pub unitColumn : Column
+unitColumn = column "unit" numeral 1 9999  -- a number
+
+abbrev pub supplierColumn : Column
+supplierColumn = column "supplier" numeral 1 highestSupplier  -- a number
+
+abbrev pub scheduleColumn : Column
+scheduleColumn = column "schedule" numeral 1 99  -- a number
+
 unfoldable pub constraintColumns : List Column
 constraintColumns =
-    column "hour" numeral 0 latestHour  -- hours
+    hourColumn
     ∷ column "relief" numeral 1 1000000  -- tenths of a MW
     ∷ column "cutoff" numeral 1 10000  -- ten-thousandths
     ∷ []
 
 unfoldable pub supplyColumns : List Column
 supplyColumns =
-    column "unit" numeral 1 9999  -- a number
-    ∷ column "supplier" numeral 1 highestSupplier  -- a number
+    unitColumn
+    ∷ supplierColumn
     ∷ column "mw" numeral 1 100000  -- tenths of a MW
     ∷ column "cost" numeral 0 highestCost  -- cents per MWh
     ∷ column "dfax" signed 10000 10000  -- ten-thousandths, from -10000
@@ -67,10 +80,10 @@ supplyColumns =
 
 unfoldable pub schedulesColumns : List Column
 schedulesColumns =
-    column "unit" numeral 1 9999  -- a number
-    ∷ column "schedule" numeral 1 99  -- a number
+    unitColumn
+    ∷ scheduleColumn
     ∷ column "kind" letter C M  -- a letter
-    ∷ column "hour" numeral 0 latestHour  -- hours
+    ∷ hourColumn
     ∷ column "ecomin" numeral 0 100000  -- tenths of a MW
     ∷ column "price" numeral 0 highestCost  -- cents per MWh
     ∷ column "noload" numeral 0 100000000  -- cents per hour
@@ -80,7 +93,7 @@ schedulesColumns =
 
 unfoldable pub parentsColumns : List Column
 parentsColumns =
-    column "supplier" numeral 1 highestSupplier  -- a number
+    supplierColumn
     ∷ column "parent" numeral 1 highestSupplier  -- a number
     ∷ []
 
@@ -90,24 +103,6 @@ table Supply = record { number = 2; columns = supplyColumns; fewestRows = 0; mos
 table Schedules = record { number = 3; columns = schedulesColumns; fewestRows = 0; mostRows = 1024 }
 table Parents = record { number = 5; columns = parentsColumns; fewestRows = 0; mostRows = 64 }
 
--- the columns of all files, one behind the other, as the code's tables have them
-unfoldable pub allColumns : List Column
-allColumns = constraintColumns ++ supplyColumns ++ schedulesColumns ++ parentsColumns
-
--- how many they are
-abbrev pub columnCount : ℕ
-columnCount = 19
-
--- where those of a file begin
-abbrev pub firstColumn : File → ℕ
-firstColumn Constraint = 0
-firstColumn Supply = 3
-firstColumn Schedules = 8
-firstColumn Parents = 17
-
-unfoldable pub columnAt : ℕ → Column
-columnAt i = getD allColumns i (column "" numeral 0 0)
-
 unfoldable pub header : File → List (List ℕ)
 header f = map (λ (c : Column). c .name) (table f .columns)
 
@@ -115,16 +110,11 @@ header f = map (λ (c : Column). c .name) (table f .columns)
 unfoldable pub joined : List (List ℕ) → List ℕ
 joined [] = []
 joined (v ∷ []) = v
-joined (v ∷ w ∷ vs) = v ++ 0x2C ∷ joined (w ∷ vs)
+joined (v ∷ w ∷ vs) = v ++ COMMA ∷ joined (w ∷ vs)
 
 -- a header's record, with the CR LF behind it
 unfoldable pub headerText : File → List ℕ
-headerText f = joined (header f) ++ 0x0D ∷ 0x0A ∷ []
+headerText f = joined (header f) ++ CR ∷ LF ∷ []
 
 unfoldable pub width : File → ℕ
 width f = length (table f .columns)
-
--- opens all of the above, for examples that compute
-unfoldable pub table·all : Unit {0}
-unfolding constraintColumns supplyColumns schedulesColumns parentsColumns allColumns columnAt header joined headerText width
-table·all = tt

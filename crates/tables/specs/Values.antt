@@ -1,9 +1,9 @@
 -- Document 01, "Files": what a field's value is in its column, as the number that a cell holds. Assumes nothing.
 use Prim.Native.Nat.{ℕ, _+_, _-_}
 use mathlib.Core.Bool.{Bool, true, false, cond, _&&_}
-use mathlib.Core.List.{List, [], _∷_, _++_}
+use mathlib.Core.List.{List, [], _∷_}
 use mathlib.Core.Option.{Option, none, some, Option·map, Option·getD}
-use lib.Dec.{eqb}
+use lib.Dec.{eqb, leb}
 use Rattle.base.specs.Text.{same}
 use Rattle.numeral.specs.Numeral.{number, within}
 use Rattle.tables.specs.Table.{Form, numeral, signed, letter, Column}
@@ -11,6 +11,10 @@ use Rattle.tables.specs.Table.{Form, numeral, signed, letter, Column}
 -- `-`
 abbrev pub MINUS : ℕ
 MINUS = 0x2D
+
+-- whether a number is within the range of a column of numerals
+unfoldable pub inColumn : Column → ℕ → Bool
+inColumn c x = leb (c .minimum) x && leb x (c .maximum)
 
 -- "dfax may carry `-` before a nonzero numeral": the number in excess of the minimum's size
 unfoldable pub excess : ℕ → ℕ → List ℕ → Option ℕ
@@ -48,13 +52,3 @@ unfoldable pub wellFormed : List Column → List (List ℕ) → Bool
 wellFormed [] vs = true
 wellFormed (c ∷ cs) [] = true
 wellFormed (c ∷ cs) (v ∷ vs) = isSome (value c v) && wellFormed cs vs
-
--- the cells of several rows, one row behind the other
-unfoldable pub allCells : List Column → List (List (List ℕ)) → List ℕ
-allCells cs [] = []
-allCells cs (r ∷ rs) = cells cs r ++ allCells cs rs
-
--- opens all of the above, for examples that compute
-unfoldable pub values·all : Unit {0}
-unfolding excess oneOf inForm value isSome cells wellFormed allCells
-values·all = tt

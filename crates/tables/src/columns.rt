@@ -1,9 +1,9 @@
 // The permitted range of each column, and the cell of a field by it.
 ghost use mathlib.Core.Path.{_≡_};
 ghost use Prim.Native.Nat.{_+_, _<_, _^_};
-ghost use Rattle.numeral.specs.Answers.{answer};
-ghost use Rattle.tables.specs.Table.{columnCount, firstColumn, columnAt};
+ghost use Rattle.numeral.specs.promises.Answers.{numeralAnswer};
 ghost use Rattle.tables.specs.Values.{value, excess as Values·excess, oneOf};
+ghost use Rattle.tables.specs.promises.Columns.{columnCount, firstColumn, columnAt};
 use crate::files::File;
 use crate::kinds::C;
 use crate::kinds::M;
@@ -121,7 +121,7 @@ pub fn first_column(file: File) -> usize
 // The cell of a field in a column, by its text without the quotes around it.
 pub fn cell(column: usize, text: &[u8]) -> Answer
     requires { ⌜ column < columnCount ⌝ }
-    ensures { λ r. ⌜ r ≡ answer (value (columnAt column) (now (text .entry))) ⌝ }
+    ensures { λ r. ⌜ r ≡ numeralAnswer (value (columnAt column) (now (text .entry))) ⌝ }
 {
     let form = FORM[column];
     let minimum = MINIMUM[column];
@@ -138,7 +138,7 @@ pub fn cell(column: usize, text: &[u8]) -> Answer
 // A signed number in excess of the minimum's size.
 fn excess(text: &[u8], minimum: u64, maximum: u64) -> Answer
     requires { ⌜ minimum + maximum < 2 ^ 64 ⌝ }
-    ensures { λ r. ⌜ r ≡ answer (Values·excess minimum maximum (now (text .entry))) ⌝ }
+    ensures { λ r. ⌜ r ≡ numeralAnswer (Values·excess minimum maximum (now (text .entry))) ⌝ }
 {
     if text.len() == 0 {
         return Answer::Refused;
@@ -159,7 +159,7 @@ fn excess(text: &[u8], minimum: u64, maximum: u64) -> Answer
 
 // One of two letters, as its byte.
 fn one_of(text: &[u8], a: u64, b: u64) -> Answer
-    ensures { λ r. ⌜ r ≡ answer (oneOf a b (now (text .entry))) ⌝ }
+    ensures { λ r. ⌜ r ≡ numeralAnswer (oneOf a b (now (text .entry))) ⌝ }
 {
     if text.len() != 1 {
         return Answer::Refused;

@@ -1,8 +1,8 @@
 // Whether a number is within the range of a column.
 ghost use mathlib.Core.Path.{_≡_};
 ghost use Prim.Native.Nat.{_<_};
-ghost use Rattle.tables.specs.Ranges.{inColumn};
-ghost use Rattle.tables.specs.Table.{columnAt, columnCount};
+ghost use Rattle.tables.specs.Values.{inColumn};
+ghost use Rattle.tables.specs.promises.Columns.{columnCount, columnAt};
 use crate::columns::MAXIMUM;
 use crate::columns::MINIMUM;
 

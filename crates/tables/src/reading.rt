@@ -2,8 +2,8 @@
 ghost use mathlib.Core.Path.{_≡_};
 ghost use Prim.Native.Nat.{_≤_, _<_};
 ghost use lib.ListN.{length};
-ghost use Rattle.tables.specs.Laying.{FileRead, Shaped, Counted, room};
-ghost use Rattle.tables.specs.Reading.{refused as Reading·refused};
+ghost use Rattle.tables.specs.promises.Laying.{FileRead, Shaped, RowsCounted, room};
+ghost use Rattle.tables.specs.Refusals.{refused as Reading·refused};
 use crate::files::File;
 use crate::files::Reading;
 use crate::files::Refusal;
@@ -49,7 +49,7 @@ fn read_records(file: File, s: &[u8], records: usize, fitting: usize, cells: &mu
 
 // The rows of a file whose records all fit, the first at `start`.
 fn read_rows(file: File, s: &[u8], start: usize, count: usize, cells: &mut [u64]) -> Reading
-    requires { ⌜ Counted file (now s) start count ⌝ }
+    requires { ⌜ RowsCounted file (now s) start count ⌝ }
     requires { ⌜ room file ≤ length (now cells) ⌝ }
     ensures { λ r. ⌜ FileRead file (now (s .entry)) (now (cells .entry)) (now (cells .exit)) r ⌝ }
 {

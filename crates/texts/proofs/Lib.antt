@@ -1,1 +1,2 @@
+pub mod PartingLaws
 pub mod SameLaws

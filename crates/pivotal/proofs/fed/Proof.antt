@@ -3,7 +3,7 @@ use mathlib.Core.Path.{refl}
 use borrow.Author.Tests.{lt-ltb, le-ltb}
 use borrow.Author.Needs.{needs}
 use Rattle.pivotal.specs.Test.{fed}
-use Rattle.pivotal.specs.Tally.{largest}
+use Rattle.pivotal.specs.promises.Tally.{largest}
 use Rattle.pivotal.proofs.fed.Statement.{statement}
 use Rattle.pivotal.proofs.fed.Tie as tie
 

@@ -26,22 +26,19 @@ left-requires c κs =
       small = none-large _ (sym (c .before .before .too-large .ensures) ∙ c .before .if2 .left);
     }
 
-pivotal-requires : tie.Need-pivotal-requires
-pivotal-requires c κs = search needs
-
-verdict-of-requires : tie.Need-verdict-of-requires
-verdict-of-requires c κs = search needs
+found-requires : tie.Need-found-requires
+found-requires c κs = search needs
 
 returns-4 : tie.Need-returns-4
 returns-4 c =
-    let to = c .before .before .before in
+    let to = c .before .before in
     somewhere _ _ _
     (omega arith)
     (sym (to .before .before .too-large .ensures) ∙ to .before .if2 .left)
-    _ _
+    _ (c .found .result)
     (omega arith)
-    (c .before .before .left .ensures)
-    (rw (c .verdict-of .ensures, c .before .pivotal .ensures, c .before .before .left .ensures))
+    (c .before .left .ensures)
+    (rw (c .found .ensures, c .before .left .ensures))
 
 pub test-spec : {M : Type 1} → statement M
 test-spec =
@@ -52,6 +49,5 @@ test-spec =
     returns-2
     returns-3
     left-requires
-    pivotal-requires
-    verdict-of-requires
+    found-requires
     returns-4)

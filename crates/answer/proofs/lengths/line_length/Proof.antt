@@ -1,7 +1,7 @@
 -- The length of a record by its numerals. Assumes nothing.
 use native.Mathlib.Omega.{arith}
-use Rattle.cells.specs.Views.{answerAt}
-use Rattle.answer.proofs.LineLaws.{line-length}
+use Rattle.cells.specs.promises.Views.{answerAt}
+use Rattle.outcome.proofs.TextLengths.{line-length}
 use borrow.Author.Needs.{needs}
 use Rattle.answer.proofs.lengths.line_length.Statement.{statement}
 use Rattle.answer.proofs.lengths.line_length.Tie as tie

@@ -2,9 +2,9 @@
 use native.Mathlib.Omega.{arith}
 use lib.ListN.{length-drop}
 use Rattle.base.proofs.Lists.{rest-lent}
-use Rattle.cells.specs.Views.{answerRows}
-use Rattle.judge.specs.Answer.{answerText}
-use Rattle.answer.proofs.LineLaws.{text-parts}
+use Rattle.cells.specs.promises.Views.{answerRows}
+use Rattle.outcome.specs.Answer.{answerText}
+use Rattle.outcome.proofs.TextLengths.{text-parts}
 use Rattle.answer.proofs.WriteLaws.{wrote-next}
 use borrow.Author.Needs.{needs}
 use Rattle.answer.proofs.writing.write.Statement.{statement}

@@ -1,7 +1,7 @@
 -- The header record. Assumes nothing.
 use native.Mathlib.Omega.{arith}
-use Rattle.judge.specs.Answer.{answerHeader}
-use Rattle.answer.proofs.LineLaws.{header-length}
+use Rattle.outcome.specs.Answer.{answerHeader}
+use Rattle.outcome.proofs.TextLengths.{header-length}
 use borrow.Author.Needs.{needs}
 use Rattle.answer.proofs.writing.write_header.Statement.{statement}
 use Rattle.answer.proofs.writing.write_header.Tie as tie

@@ -2,7 +2,7 @@
 use Prim.Native.Nat.{_+_, _*_}
 use native.Mathlib.Omega.{arith}
 use lib.ListN.{getD}
-use Rattle.cells.specs.Views.{answerWidth}
+use Rattle.cells.specs.promises.Views.{answerWidth}
 use Rattle.answer.proofs.LineLaws.{number-length}
 use Rattle.answer.proofs.WriteLaws.{number-room, wrote-number}
 use borrow.Author.Needs.{needs}

@@ -2,7 +2,7 @@
 use native.Mathlib.Omega.{arith}
 use lib.ListN.{length-drop}
 use Rattle.base.proofs.Lists.{rest-lent}
-use Rattle.cells.specs.Views.{answerAt}
+use Rattle.cells.specs.promises.Views.{answerAt}
 use Rattle.answer.proofs.LineLaws.{line-parts, line-parts-length}
 use Rattle.answer.proofs.WriteLaws.{wrote-next}
 use borrow.Author.Needs.{needs}

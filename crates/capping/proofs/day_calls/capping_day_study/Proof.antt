@@ -10,14 +10,14 @@ day-in-requires c κs = search needs
 study-requires : tie.Need-study-requires
 study-requires c κs = search needs
 
-of-study-requires : tie.Need-of-study-requires
-of-study-requires c κs = search needs
+told-by-study-requires : tie.Need-told-by-study-requires
+told-by-study-requires c κs = search needs
 
 keep-requires : tie.Need-keep-requires
 keep-requires c κs = search needs
 
-tell-requires : tie.Need-tell-requires
-tell-requires c κs = search needs
+report-on-requires : tie.Need-report-on-requires
+report-on-requires c κs = search needs
 
 count-of-requires : tie.Need-count-of-requires
 count-of-requires c κs = search needs
@@ -31,7 +31,7 @@ returns c = let told = c .before in
     let called = kept .before .before in
     let study = called .before .before .before .before in
     let seen = study .before .before .day-in .ensures in (
-      day-studied _ _ _ seen _ _ _ _ (study .study .ensures .0) (called .of-study .ensures) (c .count-of .ensures) (told .tell .ensures) (kept .keep .ensures),
+      day-studied _ _ _ seen _ _ _ _ (study .study .ensures .0) (called .told-by-study .ensures) (c .count-of .ensures) (told .report-on .ensures) (kept .keep .ensures),
       told-right _ _ seen _ _ (study .study .result) (study .study .ensures .1) (c .count-of .ensures),
     )
 
@@ -41,9 +41,9 @@ capping-day-study-spec =
     (tie.spec
     day-in-requires
     study-requires
-    of-study-requires
+    told-by-study-requires
     keep-requires
-    tell-requires
+    report-on-requires
     count-of-requires
     same-length
     returns)

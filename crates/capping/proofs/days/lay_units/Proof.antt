@@ -4,7 +4,7 @@ use mathlib.Core.Path.{_≡_, refl}
 use native.Mathlib.Omega.{arith}
 use lib.ListN.{length}
 use borrow.Author.Needs.{needs}
-use Rattle.judge.specs.Day.{mostRunning}
+use Rattle.outcome.specs.Day.{mostRunning}
 use Rattle.running.specs.View.{unitsOf}
 use Rattle.running.proofs.ViewLaws.{mapped}
 use Rattle.capping.proofs.LayingLaws.{Laying, laying-none, laying-place, laying-over}

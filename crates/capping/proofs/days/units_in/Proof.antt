@@ -2,7 +2,7 @@
 use Prim.Native.Nat.{_-_}
 use native.Mathlib.Omega.{arith}
 use borrow.Author.Needs.{needs}
-use Rattle.judge.specs.Day.{mostRunning}
+use Rattle.outcome.specs.Day.{mostRunning}
 use Rattle.running.specs.View.{unitsOf}
 use Rattle.running.proofs.ViewLaws.{mapped}
 use Rattle.capping.proofs.DayInLaws.{Taking, taking-none, taking-next, taking-over}

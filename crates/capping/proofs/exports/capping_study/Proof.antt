@@ -10,11 +10,11 @@ fresh-requires c κs = search needs
 study-requires : tie.Need-study-requires
 study-requires c κs = search needs
 
-of-study-requires : tie.Need-of-study-requires
-of-study-requires c κs = search needs
+told-by-study-requires : tie.Need-told-by-study-requires
+told-by-study-requires c κs = search needs
 
-tell-requires : tie.Need-tell-requires
-tell-requires c κs = search needs
+report-on-requires : tie.Need-report-on-requires
+report-on-requires c κs = search needs
 
 count-of-requires : tie.Need-count-of-requires
 count-of-requires c κs = search needs
@@ -27,7 +27,7 @@ returns c =
     let told = c .before .before .before in
     let study = told .before .before .before in
     let fresh = study .before .before .fresh .ensures .0 in (
-      study-told _ _ fresh _ _ _ _ (study .study .ensures .0) (told .of-study .ensures) (c .count-of .ensures) (c .before .tell .ensures),
+      study-told _ _ fresh _ _ _ _ (study .study .ensures .0) (told .told-by-study .ensures) (c .count-of .ensures) (c .before .report-on .ensures),
       told-right _ _ fresh _ _ (study .study .result) (study .study .ensures .1) (c .count-of .ensures),
     )
 
@@ -37,8 +37,8 @@ capping-study-spec =
     (tie.spec
     fresh-requires
     study-requires
-    of-study-requires
-    tell-requires
+    told-by-study-requires
+    report-on-requires
     count-of-requires
     same-length
     returns)

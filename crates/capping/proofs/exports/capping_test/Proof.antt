@@ -10,8 +10,8 @@ test-requires c κs = search needs
 enum-known-answer : tie.Need-enum-known-answer
 enum-known-answer c = search needs
 
-verdict-number-requires : tie.Need-verdict-number-requires
-verdict-number-requires c κs = search needs
+number-of-requires : tie.Need-number-of-requires
+number-of-requires c κs = search needs
 
 enum-told : tie.Need-enum-told
 enum-told c = search needs
@@ -20,7 +20,7 @@ returns : tie.Need-returns
 returns c =
     let answers = c .before .before .before .before .test .ensures in
     let came = c .before .before .answer .given .1 in
-    (tested-number answers came (c .verdict-number .ensures), tested-left answers came _)
+    (tested-number answers came (c .number-of .ensures), tested-left answers came _)
 
 returns-2 : tie.Need-returns-2
 returns-2 c =
@@ -30,4 +30,4 @@ returns-2 c =
 pub capping-test-spec : {M : Type 1} → statement M
 capping-test-spec =
     tie.close
-    (tie.spec test-requires enum-known-answer verdict-number-requires enum-told returns returns-2)
+    (tie.spec test-requires enum-known-answer number-of-requires enum-told returns returns-2)

@@ -5,7 +5,7 @@ use mathlib.Core.Path.{_≡_, sym, _∙_}
 use native.Mathlib.Omega.{arith}
 use borrow.Author.Needs.{needs}
 use lib.ListN.{length, getD, drop}
-use Rattle.csv.specs.Fields.{separates, extent}
+use Rattle.csv.specs.promises.Fields.{endsField, extent}
 use Rattle.csv.proofs.Parts.{extent-here, extent-later, extent-end}
 use Rattle.csv.proofs.fields.field_length.Statement.{statement}
 use Rattle.csv.proofs.fields.field_length.Tie as tie
@@ -38,7 +38,7 @@ returns : tie.Need-returns Inv-loop μ-loop
 returns c =
     let s = c .before .before .before .before .before .before .args .s .now in
     let loop = c .before .before .before .before .loop in
-    let e : separates (loop .inside) (getD s (loop .i) 0) ≡ true = sym (c .before .separates .ensures) ∙ c .if1 .taken in
+    let e : endsField (loop .inside) (getD s (loop .i) 0) ≡ true = sym (c .before .separates .ensures) ∙ c .if1 .taken in
     (omega (arith, extent-here (loop .inside) s (loop .i) (omega arith) e), omega arith)
 
 -- src/fields.rt:23:33
@@ -62,7 +62,7 @@ loop-again : tie.Need-loop-again Inv-loop μ-loop
 loop-again c =
     let s = c .before .before .before .before .before .before .before .before .args .s .now in
     let loop = c .before .before .before .before .before .before .loop in
-    let e : separates (loop .inside) (getD s (loop .i) 0) ≡ false =
+    let e : endsField (loop .inside) (getD s (loop .i) 0) ≡ false =
     sym (c .before .before .before .separates .ensures) ∙ c .before .before .if1 .left
     in
     let later = extent-later (loop .inside) s (loop .i) (omega arith) e in

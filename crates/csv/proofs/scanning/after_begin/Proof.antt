@@ -1,6 +1,6 @@
 -- A byte where a field begins. Assumes nothing.
 use borrow.Author.Tests.{eq-eqb, ne-eqb}
-use Rattle.csv.specs.Reading.{next}
+use Rattle.csv.specs.Records.{next}
 use borrow.Author.Needs.{needs}
 use Rattle.csv.proofs.scanning.after_begin.Statement.{statement}
 use Rattle.csv.proofs.scanning.after_begin.Tie as tie

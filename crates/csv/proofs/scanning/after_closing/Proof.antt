@@ -1,6 +1,6 @@
 -- A byte behind a DQUOTE in an escaped field. Assumes nothing.
 use borrow.Author.Tests.{eq-eqb, ne-eqb}
-use Rattle.csv.specs.Reading.{next}
+use Rattle.csv.specs.Records.{next}
 use borrow.Author.Needs.{needs}
 use Rattle.csv.proofs.scanning.after_closing.Statement.{statement}
 use Rattle.csv.proofs.scanning.after_closing.Tie as tie

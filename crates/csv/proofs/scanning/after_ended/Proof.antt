@@ -1,6 +1,6 @@
 -- A byte behind the CR that ends a record. Assumes nothing.
 use borrow.Author.Tests.{eq-eqb, ne-eqb}
-use Rattle.csv.specs.Reading.{next}
+use Rattle.csv.specs.Records.{next}
 use Rattle.csv.proofs.scanning.after_ended.Statement.{statement}
 use Rattle.csv.proofs.scanning.after_ended.Tie as tie
 

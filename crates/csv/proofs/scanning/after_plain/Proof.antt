@@ -1,5 +1,5 @@
 -- A byte in a non-escaped field. Assumes nothing.
-use Rattle.csv.specs.Reading.{next}
+use Rattle.csv.specs.Records.{next}
 use borrow.Author.Needs.{needs}
 use Rattle.csv.proofs.scanning.after_plain.Statement.{statement}
 use Rattle.csv.proofs.scanning.after_plain.Tie as tie

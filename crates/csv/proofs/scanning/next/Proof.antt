@@ -1,6 +1,6 @@
 -- Each state by its own function. Assumes nothing.
 use borrow.Author.Needs.{needs}
-use Rattle.csv.specs.Reading.{next}
+use Rattle.csv.specs.Records.{next}
 use Rattle.csv.proofs.scanning.next.Statement.{statement}
 use Rattle.csv.proofs.scanning.next.Tie as tie
 

@@ -3,7 +3,7 @@ use native.Mathlib.Omega.{arith}
 use mathlib.Core.Bool.{_&&_}
 use lib.Dec.{eqb}
 use Rattle.base.proofs.Searches.{one-le}
-use Rattle.csv.specs.Scan.{kept, over}
+use Rattle.csv.specs.promises.Scan.{tallyOf, over}
 use borrow.Author.Needs.{needs}
 use Rattle.csv.proofs.scanning.over.Statement.{statement}
 use Rattle.csv.proofs.scanning.over.Tie as tie
@@ -18,7 +18,7 @@ add-t6 : tie.Need-add-t6
 add-t6 c = omega (arith, c .before .fits2 .ensures, one-le (eqb (c .before .before .before .args .t .fitting) (c .before .before .before .args .t .records) && eqb (c .before .before .before .args .width) (c .before .before .before .args .t .fields)))
 
 returns : tie.Need-returns
-unfolding over kept
+unfolding over tallyOf
 returns c = rw (c .before .fits2 .ensures)
 
 pub over-spec : {M : Type 1} → statement M

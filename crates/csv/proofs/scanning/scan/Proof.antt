@@ -4,7 +4,7 @@ use mathlib.Core.Path.{_≡_, refl, _∙_}
 use native.Mathlib.Omega.{arith}
 use borrow.Author.Needs.{needs}
 use lib.ListN.{length, getD, drop}
-use Rattle.csv.specs.Scan.{kept, start, tally}
+use Rattle.csv.specs.promises.Scan.{tallyOf, start, tally}
 use Rattle.csv.proofs.Scanned.{tally-scans}
 use Rattle.csv.proofs.Tallies.{Bounded, step-bounded, tally-next, tally-end}
 use Rattle.csv.proofs.scanning.scan.Statement.{statement}
@@ -16,14 +16,14 @@ use Rattle.csv.proofs.scanning.step.Reads as step-reads
 
 abbrev Inv-loop : tie.InvT-loop
 Inv-loop s width t₀ i₀ t i =
-    (i ≤ length s) × Bounded i (kept t) × (tally width start s ≡ tally width (kept t) (drop i s))
+    (i ≤ length s) × Bounded i (tallyOf t) × (tally width start s ≡ tally width (tallyOf t) (drop i s))
 
 abbrev μ-loop : tie.MeasureT-loop
 μ-loop s width t₀ i₀ t i = length s - i
 
 -- src/scanning.rt:269:5
 loop-holds : tie.Need-loop-holds Inv-loop μ-loop
-unfolding kept start
+unfolding tallyOf start
 loop-holds c = (search needs, record { fields = search needs; records = search needs; fitting = search needs }, refl)
 
 -- src/scanning.rt:270:28
@@ -32,7 +32,7 @@ shared-slice-read-step c = omega arith
 
 -- src/scanning.rt:270:9
 step-requires : tie.Need-step-requires Inv-loop μ-loop
-unfolding kept
+unfolding tallyOf
 step-requires c κs = omega arith
 
 -- src/scanning.rt:271:9
@@ -49,7 +49,7 @@ loop-again c =
     let s = c .before .before .before .before .before .args .s .now in
     let width = c .before .before .before .before .before .args .width in
     let i = c .before .before .before .loop .i in
-    let t = kept (c .before .before .before .loop .t) in
+    let t = tallyOf (c .before .before .before .loop .t) in
     let inv = c .before .before .before .loop .inv in (
       omega arith,
       rw (c .step .ensures) (step-bounded width i (getD s i 0) t (inv .1)),
@@ -58,7 +58,7 @@ loop-again c =
 
 -- src/scanning.rt:273:5
 finished-requires : tie.Need-finished-requires Inv-loop μ-loop
-unfolding kept
+unfolding tallyOf
 finished-requires c κs = omega arith
 
 -- src/scanning.rt:259:1
@@ -67,7 +67,7 @@ returns c =
     let s = c .before .before .before .before .args .s .now in
     let width = c .before .before .before .before .args .width in
     let loop = c .before .before .loop in
-    c .finished .ensures ∙ rw (tally-scans width s, loop .inv .2, tally-end width (kept (loop .t)) s (loop .i) (omega arith))
+    c .finished .ensures ∙ rw (tally-scans width s, loop .inv .2, tally-end width (tallyOf (loop .t)) s (loop .i) (omega arith))
 
 pub scan-spec : {M : Type 1} → statement M
 scan-spec =

@@ -1,5 +1,5 @@
 -- The answer of a tally. Assumes nothing.
-use Rattle.csv.specs.Scan.{kept, answer}
+use Rattle.csv.specs.promises.Scan.{tallyOf, scanAnswer}
 use borrow.Author.Needs.{needs}
 use Rattle.csv.proofs.scanning.verdict.Statement.{statement}
 use Rattle.csv.proofs.scanning.verdict.Tie as tie
@@ -8,11 +8,11 @@ may-end-requires : tie.Need-may-end-requires
 may-end-requires c κs = search needs
 
 returns : tie.Need-returns
-unfolding answer kept
+unfolding scanAnswer tallyOf
 returns c = simp (← c .before .may-end .ensures, c .if1 .taken)
 
 returns-2 : tie.Need-returns-2
-unfolding answer kept
+unfolding scanAnswer tallyOf
 returns-2 c = simp (← c .before .may-end .ensures, c .if1 .left)
 
 pub verdict-spec : {M : Type 1} → statement M

@@ -1,7 +1,7 @@
 -- One unit's row. Assumes nothing.
 use mathlib.Core.Path.{refl}
 use native.Mathlib.Omega.{arith}
-use Rattle.decision.proofs.ChoosingLaws.{row-costless, row-chosen}
+use Rattle.decision.proofs.ChoosingLaws.{row-without-cost, row-chosen}
 use borrow.Author.Needs.{needs}
 use Rattle.decision.proofs.deciding.choose_row.Statement.{statement}
 use Rattle.decision.proofs.deciding.choose_row.Tie as tie
@@ -10,7 +10,7 @@ lacks-cost-requires : tie.Need-lacks-cost-requires
 lacks-cost-requires c κs = search needs
 
 returns : tie.Need-returns
-returns c = row-costless _ _ _ _ _ _ (c .before .lacks-cost .ensures) (c .if1 .taken) refl
+returns c = row-without-cost _ _ _ _ _ _ (c .before .lacks-cost .ensures) (c .if1 .taken) refl
 
 choose-for-requires : tie.Need-choose-for-requires
 choose-for-requires c κs = search needs

@@ -4,10 +4,10 @@ use mathlib.Core.Path.{_≡_, refl}
 use native.Mathlib.Omega.{arith}
 use borrow.Author.Needs.{needs}
 use lib.ListN.{length}
-use Rattle.tables.specs.Rows.{scheduleRows}
 use Rattle.running.specs.View.{unitsOf}
 use Rattle.running.proofs.ViewLaws.{mapped}
-use Rattle.decision.proofs.LayingLaws.{Laying, laying-none, part-room, laying-length, laying-costless, laying-next, laying-over}
+use Rattle.tables.specs.promises.FlatRows.{scheduleRows}
+use Rattle.decision.proofs.LayingLaws.{Laying, laying-none, part-room, laying-length, laying-without-cost, laying-next, laying-over}
 use Rattle.decision.proofs.deciding.choose_rows.Statement.{statement}
 use Rattle.decision.proofs.deciding.choose_rows.Tie as tie
 
@@ -59,7 +59,7 @@ same-length c = let start = c .before .before .before .before .before .before .b
 returns : tie.Need-returns Inv-loop μ-loop
 returns c = let start = c .before .before .before .before .before .before .before .before .before .before .before .before in
     let loop = c .before .before .before .before .before .before .before .before .loop in
-    laying-costless _ _ _ _ _ _ _ (loop .i) (loop .inv) (omega arith) _ refl _ (c .before .before .before .before .before .day-kind .ensures) (c .before .before .before .choose-row .ensures) (c .if1 .taken) _
+    laying-without-cost _ _ _ _ _ _ _ (loop .i) (loop .inv) (omega arith) _ refl _ (c .before .before .before .before .before .day-kind .ensures) (c .before .before .before .choose-row .ensures) (c .if1 .taken) _
 
 add-i : tie.Need-add-i Inv-loop μ-loop
 add-i c = omega arith

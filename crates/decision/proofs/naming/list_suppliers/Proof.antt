@@ -3,10 +3,11 @@ use Prim.Native.Nat.{_≤_, _-_}
 use mathlib.Core.Path.{_∙_, ap}
 use native.Mathlib.Omega.{arith}
 use borrow.Author.Needs.{needs}
-use Rattle.tables.specs.Rows.{SupplyRow, supplyRows}
+use Rattle.tables.specs.Rows.{SupplyRow}
+use Rattle.tables.specs.promises.FlatRows.{supplyRows}
 use Rattle.offers.proofs.CellLaws.{row-cells}
 use Rattle.market.proofs.ListingLaws.{Filling, filling-none, filling-next, filling-over}
-use Rattle.decision.specs.Naming.{supplierOf}
+use Rattle.decision.specs.promises.Naming.{supplierOf}
 use Rattle.decision.proofs.UnitLaws.{unit-there}
 use Rattle.decision.proofs.naming.list_suppliers.Statement.{statement}
 use Rattle.decision.proofs.naming.list_suppliers.Tie as tie

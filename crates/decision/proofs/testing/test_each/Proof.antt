@@ -5,9 +5,9 @@ use native.Mathlib.Omega.{arith}
 use borrow.Author.Needs.{needs}
 use lib.ListN.{length}
 use Rattle.supply.specs.Supply.{mostUnits}
-use Rattle.tables.specs.Rows.{supplyRows}
 use Rattle.market.proofs.ListingLaws.{Filling, filling-none, filling-next, filling-over}
-use Rattle.decision.specs.Testing.{unitTest}
+use Rattle.decision.specs.promises.Testing.{unitTest}
+use Rattle.tables.specs.promises.FlatRows.{supplyRows}
 use Rattle.decision.proofs.UnitLaws.{unit-there}
 use Rattle.decision.proofs.testing.test_each.Statement.{statement}
 use Rattle.decision.proofs.testing.test_each.Tie as tie

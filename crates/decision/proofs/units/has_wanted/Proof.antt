@@ -3,9 +3,9 @@ use Prim.Native.Nat.{_-_, _≤_}
 use mathlib.Core.Path.{_≡_, sym, _∙_}
 use native.Mathlib.Omega.{arith}
 use lib.ListN.{drop}
-use Rattle.tables.specs.Rows.{supplyRows}
 use Rattle.offers.proofs.CellLaws.{row-cells}
-use Rattle.decision.specs.Units.{anyOf, wantedRow}
+use Rattle.decision.specs.promises.Units.{anyOf, wantedRow}
+use Rattle.tables.specs.promises.FlatRows.{supplyRows}
 use Rattle.decision.proofs.UnitLaws.{any-further, any-over}
 use Rattle.decision.proofs.units.has_wanted.Statement.{statement}
 use Rattle.decision.proofs.units.has_wanted.Tie as tie

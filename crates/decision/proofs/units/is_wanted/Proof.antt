@@ -1,6 +1,6 @@
 -- Whether a row is wanted. Assumes nothing.
 use mathlib.Core.Path.{_∙_}
-use Rattle.decision.specs.Units.{wantedRow}
+use Rattle.decision.specs.promises.Units.{wantedRow}
 use borrow.Author.Needs.{needs}
 use Rattle.decision.proofs.units.is_wanted.Statement.{statement}
 use Rattle.decision.proofs.units.is_wanted.Tie as tie

@@ -1,5 +1,7 @@
 -- An hour by the range of its column. Assumes nothing.
-use Rattle.judge.specs.Day.{hourInRange}
+use Rattle.outcome.specs.Day.{hourInRange}
+use Rattle.tables.specs.Table.{constraintColumns, supplyColumns, schedulesColumns}
+use Rattle.tables.specs.promises.Columns.{columnAt, allColumns}
 use borrow.Author.Needs.{needs}
 use Rattle.engine.proofs.asking.hour_in_range.Statement.{statement}
 use Rattle.engine.proofs.asking.hour_in_range.Tie as tie
@@ -21,7 +23,7 @@ unfolding hourInRange
 returns c = rw (c .enum-told .given .1)
 
 returns-2 : tie.Need-returns-2
-unfolding hourInRange
+unfolding hourInRange columnAt allColumns constraintColumns supplyColumns schedulesColumns
 returns-2 c = rw (c .before .before .before .hour .given .1) (rw (c .before .first-column .ensures) at (c .in-column .ensures))
 
 pub hour-in-range-spec : {M : Type 1} → statement M

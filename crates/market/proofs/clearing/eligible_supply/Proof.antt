@@ -1,6 +1,6 @@
 -- Eligible supply. Assumes nothing.
 use Rattle.market.specs.Clearing.{eligibleSupply}
-use Rattle.market.specs.Parts.{inPart}
+use Rattle.market.specs.promises.Parts.{inPart}
 use borrow.Author.Needs.{needs}
 use Rattle.market.proofs.clearing.eligible_supply.Statement.{statement}
 use Rattle.market.proofs.clearing.eligible_supply.Tie as tie

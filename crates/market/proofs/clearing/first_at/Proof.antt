@@ -2,8 +2,8 @@
 use Prim.Native.Nat.{_-_}
 use mathlib.Core.Path.{sym, _∙_}
 use native.Mathlib.Omega.{arith}
-use Rattle.market.specs.Narrowing.{eligibleAt, firstAt}
-use Rattle.cells.specs.Views.{supplyAt}
+use Rattle.market.specs.promises.Narrowing.{eligibleAt, firstAt}
+use Rattle.cells.specs.promises.Views.{supplyAt}
 use Rattle.offers.proofs.CellLaws.{row-cells}
 use Rattle.market.proofs.TryLaws.{Trying, trying-none, trying-next, trying-here, trying-over}
 use Rattle.market.proofs.clearing.first_at.Statement.{statement}

@@ -1,5 +1,5 @@
 -- Whether a row is eligible and of another's cost. Assumes nothing.
-use Rattle.market.specs.Narrowing.{eligibleAt}
+use Rattle.market.specs.promises.Narrowing.{eligibleAt}
 use borrow.Author.Needs.{needs}
 use Rattle.market.proofs.clearing.is_at.Statement.{statement}
 use Rattle.market.proofs.clearing.is_at.Tie as tie

@@ -1,6 +1,7 @@
 -- The need of a relief. Assumes nothing.
 use native.Mathlib.Omega.{arith}
-use Rattle.tables.specs.Table.{columnAt, allColumns, constraintColumns, supplyColumns, schedulesColumns}
+use Rattle.tables.specs.Table.{constraintColumns, supplyColumns, schedulesColumns}
+use Rattle.tables.specs.promises.Columns.{allColumns, columnAt}
 use Rattle.market.specs.Clearing.{needOf}
 use Rattle.market.proofs.clearing.need_of.Statement.{statement}
 use Rattle.market.proofs.clearing.need_of.Tie as tie

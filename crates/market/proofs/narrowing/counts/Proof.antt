@@ -1,5 +1,5 @@
 -- Whether a row is eligible and supplies something. Assumes nothing.
-use Rattle.market.specs.Narrowing.{counts}
+use Rattle.market.specs.promises.Narrowing.{counts}
 use borrow.Author.Needs.{needs}
 use Rattle.market.proofs.narrowing.counts.Statement.{statement}
 use Rattle.market.proofs.narrowing.counts.Tie as tie

@@ -1,7 +1,7 @@
 -- Whether a row counts and its cost is between the bounds. Assumes nothing.
 use mathlib.Core.Bool.{and-false}
 use native.Mathlib.Omega.{arith}
-use Rattle.market.specs.Narrowing.{between}
+use Rattle.market.specs.promises.Narrowing.{between}
 use Rattle.offers.proofs.CellLaws.{row-cells}
 use borrow.Author.Needs.{needs}
 use Rattle.market.proofs.narrowing.is_between.Statement.{statement}

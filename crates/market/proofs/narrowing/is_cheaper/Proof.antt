@@ -2,7 +2,7 @@
 use mathlib.Core.Bool.{and-false}
 use native.Mathlib.Omega.{arith}
 use borrow.Author.Tests.{lt-ltb, le-ltb}
-use Rattle.market.specs.Narrowing.{cheaper}
+use Rattle.market.specs.promises.Narrowing.{cheaper}
 use Rattle.offers.specs.Supply.{below}
 use Rattle.offers.proofs.CellLaws.{row-cells}
 use Rattle.market.proofs.narrowing.is_cheaper.Statement.{statement}

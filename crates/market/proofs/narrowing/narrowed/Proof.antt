@@ -1,7 +1,7 @@
 -- The bounds, narrowed by one row. Assumes nothing.
 use mathlib.Core.Path.{sym, _∙_}
 use native.Mathlib.Omega.{arith}
-use Rattle.market.specs.Parts.{inPart}
+use Rattle.market.specs.promises.Parts.{inPart}
 use Rattle.offers.proofs.CellLaws.{row-cells}
 use Rattle.market.proofs.NarrowingLaws.{narrows-not, narrows-low, narrows-high}
 use borrow.Author.Needs.{needs}

@@ -3,11 +3,11 @@ use mathlib.Core.Path.{_≡_}
 use Prim.Native.Nat.{_≤_, _-_}
 use native.Mathlib.Omega.{arith}
 use borrow.Author.Needs.{needs}
-use Rattle.tables.specs.Rows.{supplyRows}
 use Rattle.market.specs.Parties.{amountOf}
-use Rattle.market.specs.Parts.{inPart}
-use Rattle.cells.specs.Views.{supplyAt}
+use Rattle.market.specs.promises.Parts.{inPart}
+use Rattle.cells.specs.promises.Views.{supplyAt}
 use Rattle.offers.proofs.CellLaws.{row-cells}
+use Rattle.tables.specs.promises.FlatRows.{supplyRows}
 use Rattle.market.proofs.ListingLaws.{Filling, filling-none, filling-next}
 use Rattle.market.proofs.parties.add_amounts.Statement.{statement}
 use Rattle.market.proofs.parties.add_amounts.Tie as tie

@@ -1,5 +1,5 @@
 -- Whether a row belongs to a part, by the part's kind. Assumes nothing.
-use Rattle.market.specs.Parts.{inPart}
+use Rattle.market.specs.promises.Parts.{inPart}
 use borrow.Author.Needs.{needs}
 use Rattle.market.proofs.parts.is_in.Statement.{statement}
 use Rattle.market.proofs.parts.is_in.Tie as tie

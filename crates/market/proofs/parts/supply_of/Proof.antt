@@ -1,7 +1,7 @@
 -- The supply of a part, one row a turn. Assumes nothing.
 use Prim.Native.Nat.{_-_}
 use native.Mathlib.Omega.{arith}
-use Rattle.market.specs.Parts.{inPart}
+use Rattle.market.specs.promises.Parts.{inPart}
 use Rattle.offers.proofs.CellLaws.{row-cells}
 use Rattle.market.proofs.PartLaws.{Adding, adding-none, adding-fits, adding-next, adding-over}
 use Rattle.market.proofs.parts.supply_of.Statement.{statement}

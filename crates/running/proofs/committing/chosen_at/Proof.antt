@@ -1,5 +1,5 @@
 -- What a row has running, by its cells. Assumes nothing.
-use Rattle.judge.specs.Study.{chosen}
+use Rattle.outcome.specs.Study.{chosen}
 use borrow.Author.Needs.{needs}
 use Rattle.running.proofs.committing.chosen_at.Statement.{statement}
 use Rattle.running.proofs.committing.chosen_at.Tie as tie

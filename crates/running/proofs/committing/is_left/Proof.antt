@@ -1,6 +1,6 @@
 -- Whether something is left to be merged. Assumes nothing.
 use borrow.Author.Tests.{lt-ltb, le-ltb}
-use Rattle.running.specs.Committing.{anyLeft}
+use Rattle.running.specs.promises.Committing.{anyLeft}
 use Rattle.running.proofs.committing.is_left.Statement.{statement}
 use Rattle.running.proofs.committing.is_left.Tie as tie
 

@@ -1,5 +1,5 @@
 -- A unit's numbers by the ranges of their columns. Assumes nothing.
-use Rattle.judge.specs.Day.{unitInRange}
+use Rattle.outcome.specs.Day.{unitInRange}
 use Rattle.running.proofs.FormingLaws.{range-unit, range-schedule}
 use borrow.Author.Needs.{needs}
 use Rattle.running.proofs.forming.unit_in_range.Statement.{statement}

@@ -1,7 +1,7 @@
 -- A row against those that its links lead to, one a turn. Assumes nothing.
 use mathlib.Core.Path.{sym, _∙_}
-use Rattle.schedules.specs.Answers.{oddWith}
-use Rattle.links.specs.Links.{Along}
+use Rattle.schedules.specs.promises.Answers.{oddWith}
+use Rattle.links.specs.promises.Links.{Along}
 use Rattle.links.proofs.LinkLaws.{along-here, along-less, along-next, along-over}
 use Rattle.schedules.proofs.SearchLaws.{earlier-any}
 use native.Mathlib.Omega.{arith}

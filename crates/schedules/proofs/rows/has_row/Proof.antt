@@ -2,9 +2,9 @@
 use Prim.Native.Nat.{ℕ}
 use mathlib.Core.Path.{sym, _∙_}
 use borrow.Author.Tests.{eq-eqb, ne-eqb}
-use Rattle.cells.specs.Views.{scheduleAt}
-use Rattle.schedules.specs.Answers.{isOf}
-use Rattle.links.specs.Links.{Along}
+use Rattle.cells.specs.promises.Views.{scheduleAt}
+use Rattle.schedules.specs.promises.Answers.{isOf}
+use Rattle.links.specs.promises.Links.{Along}
 use Rattle.schedules.proofs.SearchLaws.{along-unit, rows-any}
 use Rattle.links.proofs.LinkLaws.{along-here, along-less, along-next, along-over}
 use native.Mathlib.Omega.{arith}

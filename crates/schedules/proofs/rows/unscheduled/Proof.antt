@@ -2,10 +2,10 @@
 use Prim.Native.Nat.{ℕ, _-_}
 use mathlib.Core.Path.{ap}
 use mathlib.Core.Bool.{not}
-use Rattle.tables.specs.Rows.{scheduleRows}
-use Rattle.schedules.specs.Answers.{hasRow}
+use Rattle.schedules.specs.promises.Answers.{hasRow}
 use Rattle.schedules.specs.Schedules.{unscheduled}
 use Rattle.links.proofs.LinkLaws.{rows-by-unit}
+use Rattle.tables.specs.promises.FlatRows.{scheduleRows}
 use Rattle.schedules.proofs.ScheduleLaws.{Finding, finding-none, finding-here, finding-next, finding-over}
 use native.Mathlib.Omega.{arith}
 use Rattle.schedules.proofs.rows.unscheduled.Statement.{statement}

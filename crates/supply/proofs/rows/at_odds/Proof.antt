@@ -1,6 +1,6 @@
 -- Two rows, by the three tests. Assumes nothing.
 use native.Mathlib.Omega.{arith}
-use Rattle.cells.specs.Views.{supplyAt}
+use Rattle.cells.specs.promises.Views.{supplyAt}
 use Rattle.supply.proofs.SupplyLaws.{odds-unit, odds-supplier, odds-dfax}
 use borrow.Author.Needs.{needs}
 use Rattle.supply.proofs.rows.at_odds.Statement.{statement}

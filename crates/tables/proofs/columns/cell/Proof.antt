@@ -1,6 +1,7 @@
 -- A field by its column's form and range. Assumes nothing.
 use native.Mathlib.Omega.{arith}
-use Rattle.tables.specs.Table.{allColumns, constraintColumns, supplyColumns, schedulesColumns, parentsColumns}
+use Rattle.tables.specs.Table.{constraintColumns, supplyColumns, schedulesColumns, parentsColumns}
+use Rattle.tables.specs.promises.Columns.{allColumns}
 use Rattle.tables.proofs.ColumnLaws.{minimum-small, maximum-small, cell-numeral, cell-signed, cell-letter}
 use borrow.Author.Needs.{needs}
 use Rattle.tables.proofs.columns.cell.Statement.{statement}

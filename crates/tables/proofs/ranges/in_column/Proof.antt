@@ -1,5 +1,6 @@
 -- A number by its column's minimum and maximum. Assumes nothing.
-use Rattle.tables.specs.Table.{allColumns, constraintColumns, supplyColumns, schedulesColumns, parentsColumns}
+use Rattle.tables.specs.Table.{constraintColumns, supplyColumns, schedulesColumns, parentsColumns}
+use Rattle.tables.specs.promises.Columns.{allColumns}
 use Rattle.tables.proofs.ColumnLaws.{below-column, from-minimum}
 use borrow.Author.Needs.{needs}
 use Rattle.tables.proofs.ranges.in_column.Statement.{statement}

@@ -2,7 +2,8 @@
 use Prim.Native.Nat.{_-_}
 use native.Mathlib.Omega.{arith}
 use borrow.Author.Needs.{needs}
-use Rattle.tables.specs.Table.{firstColumn, width}
+use Rattle.tables.specs.Table.{width}
+use Rattle.tables.specs.promises.Columns.{firstColumn}
 use Rattle.tables.proofs.RowLaws.{Laying, laying-none, laying-next, laying-over, within-all}
 use Rattle.tables.proofs.rows.lay_row.Statement.{statement}
 use Rattle.tables.proofs.rows.lay_row.Tie as tie

@@ -2,7 +2,7 @@
 use native.Mathlib.Omega.{arith}
 use Rattle.engine.specs.View.{viewOf}
 use Rattle.engine.proofs.StudyFits.{rows-fit, chosen-few}
-use Rattle.engine.proofs.StudyLaws.{answers-cramped, answers-written}
+use Rattle.engine.proofs.StudyLaws.{answers-short-buffer, answers-written}
 use borrow.Author.Needs.{needs}
 use Rattle.engine.proofs.day.Day.answer_rows.Statement.{statement}
 use Rattle.engine.proofs.day.Day.answer_rows.Tie as tie
@@ -14,7 +14,7 @@ refuse-study-requires : tie.Need-refuse-study-requires
 refuse-study-requires c κs = search needs
 
 returns : tie.Need-returns
-returns c = answers-cramped _ _ _ _ _ (c .before .before .length .ensures) (omega arith) _ (c .refuse-study .ensures)
+returns c = answers-short-buffer _ _ _ _ _ (c .before .before .length .ensures) (omega arith) _ (c .refuse-study .ensures)
 
 write-requires : tie.Need-write-requires
 write-requires c κs = search needs

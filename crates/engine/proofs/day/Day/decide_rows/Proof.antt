@@ -3,7 +3,7 @@ use mathlib.Core.Path.{refl}
 use native.Mathlib.Omega.{arith}
 use Rattle.running.proofs.FormingLaws.{formed-few}
 use Rattle.engine.specs.View.{viewOf}
-use Rattle.engine.proofs.DecidingLaws.{was-costless, was-decided, rows-ready, rows-earlier, rows-costless, rows-crowded, rows-laid}
+use Rattle.engine.proofs.DecidingLaws.{was-without-cost, was-decided, rows-ready, rows-earlier, rows-without-cost, rows-over-limit, rows-laid}
 use borrow.Author.Needs.{needs}
 use Rattle.engine.proofs.day.Day.decide_rows.Statement.{statement}
 use Rattle.engine.proofs.day.Day.decide_rows.Tie as tie
@@ -43,8 +43,8 @@ same-length c = search needs
 returns-2 : tie.Need-returns-2
 unfolding viewOf
 returns-2 c =
-    let costless = was-costless _ _ _ _ _ _ (c .before .before .before .before .before .before .decide .ensures) (c .before .before .decided .given .1) in
-    rows-costless (c .before .before .before .before .before .before .before .before .before .before .before .before .before .before .before .before .args .self) _ _ _ _ _ (c .before .before .before .before .before .before .before .before .before .before .is-earlier .ensures) (c .before .before .before .before .before .before .before .before .before .if1 .left) _ costless (c .refused-at .ensures)
+    let costless = was-without-cost _ _ _ _ _ _ (c .before .before .before .before .before .before .decide .ensures) (c .before .before .decided .given .1) in
+    rows-without-cost (c .before .before .before .before .before .before .before .before .before .before .before .before .before .before .before .before .args .self) _ _ _ _ _ (c .before .before .before .before .before .before .before .before .before .before .is-earlier .ensures) (c .before .before .before .before .before .before .before .before .before .if1 .left) _ costless (c .refused-at .ensures)
 
 same-length-2 : tie.Need-same-length-2
 same-length-2 c = search needs
@@ -54,7 +54,7 @@ unfolding viewOf
 returns-3 c =
     let units = c .before .before .before .before .before .before .before .before .before .before .before .before .before .before .before .before .before .pre .1 .1 .0 in
     let on-cost = was-decided _ _ _ _ _ _ (c .before .before .before .before .before .before .before .decide .ensures) (c .before .before .before .enum-told .given .1) in
-    rows-crowded (c .before .before .before .before .before .before .before .before .before .before .before .before .before .before .before .before .before .args .self) _ _ _ _ _ (c .before .before .before .before .before .before .before .before .before .before .before .is-earlier .ensures) (c .before .before .before .before .before .before .before .before .before .before .if1 .left) on-cost _ (rw (units .listed) at (c .before .before .would-run .ensures)) (omega arith) (c .refused-by-state2 .ensures)
+    rows-over-limit (c .before .before .before .before .before .before .before .before .before .before .before .before .before .before .before .before .before .args .self) _ _ _ _ _ (c .before .before .before .before .before .before .before .before .before .before .before .is-earlier .ensures) (c .before .before .before .before .before .before .before .before .before .before .if1 .left) on-cost _ (rw (units .listed) at (c .before .before .would-run .ensures)) (omega arith) (c .refused-by-state2 .ensures)
 
 same-length-3 : tie.Need-same-length-3
 same-length-3 c = search needs

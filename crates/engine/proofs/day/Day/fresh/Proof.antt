@@ -1,7 +1,7 @@
 -- A fresh day. Assumes nothing.
 use mathlib.Core.Path.{refl}
 use borrow.Author.Needs.{needs}
-use Rattle.judge.specs.Day.{freshDay}
+use Rattle.outcome.specs.Day.{freshDay}
 use Rattle.engine.specs.View.{viewOf}
 use Rattle.engine.proofs.day.Day.fresh.Statement.{statement}
 use Rattle.engine.proofs.day.Day.fresh.Tie as tie

@@ -1,6 +1,6 @@
 -- An hour beside the day's. Assumes nothing.
 use borrow.Author.Needs.{needs}
-use Rattle.judge.specs.Day.{earlier}
+use Rattle.outcome.specs.Day.{earlier}
 use Rattle.engine.specs.View.{viewOf}
 use Rattle.engine.proofs.day.Day.is_earlier.Statement.{statement}
 use Rattle.engine.proofs.day.Day.is_earlier.Tie as tie

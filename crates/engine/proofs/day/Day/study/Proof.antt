@@ -1,6 +1,6 @@
 -- Decided first, then answered; demand 3 from the outcome. Assumes nothing.
-use Rattle.filing.specs.Filing.{files}
-use Rattle.judge.proofs.Sound.{day-formed}
+use Rattle.checking.specs.Files.{files}
+use Rattle.outcome.proofs.Sound.{day-formed}
 use Rattle.engine.specs.View.{viewOf}
 use Rattle.engine.proofs.FormingLaws.{formed-units}
 use Rattle.engine.proofs.StudyLaws.{study-refused, study-answered, answers-right}

@@ -4,11 +4,11 @@ use mathlib.Core.Path.{_≡_, refl, sym, _∙_}
 use native.Mathlib.Omega.{arith}
 use borrow.Author.Needs.{needs}
 use lib.ListN.{length, drop}
-use Rattle.judge.specs.Day.{mostRunning, risingInRange}
-use Rattle.running.specs.Forming.{unitsFormed}
+use Rattle.outcome.specs.Day.{mostRunning, risingInRange}
+use Rattle.running.specs.promises.Forming.{unitsFormed}
 use Rattle.running.specs.View.{firstUnits, unitsOf}
 use Rattle.running.proofs.ViewLaws.{unused, counted, first-next, first-end, mapped}
-use Rattle.running.proofs.FormingLaws.{crowded, by-units, falls, strays, rises, risen}
+use Rattle.running.proofs.FormingLaws.{over, by-units, falls, strays, rises, risen}
 use Rattle.running.proofs.units.Units.is_formed.Statement.{statement}
 use Rattle.running.proofs.units.Units.is_formed.Tie as tie
 
@@ -23,7 +23,7 @@ abbrev μ-loop : tie.MeasureT-loop
 μ-loop self count last₀ i₀ last i = count - i
 
 returns : tie.Need-returns Inv-loop μ-loop
-returns c = sym (crowded _ (omega (arith, counted (c .before .args .t1))))
+returns c = sym (over _ (omega (arith, counted (c .before .args .t1))))
 
 loop-holds : tie.Need-loop-holds Inv-loop μ-loop
 unfolding unitsOf

@@ -1,0 +1,9 @@
+pub mod AloneLaws
+pub mod Computing
+pub mod FilesLaws
+pub mod KeptLaws
+pub mod MarketLaws
+pub mod ParentsLaws
+pub mod Rooms
+pub mod RuleLaws
+pub mod StepLaws

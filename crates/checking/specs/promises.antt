@@ -1,0 +1,5 @@
+pub mod Alone
+pub mod Kept
+pub mod Market
+pub mod Parents
+pub mod Rules

@@ -1,0 +1,4 @@
+pub mod Kinds
+pub mod OneRow
+pub mod Ranges
+pub mod Steps

@@ -1,3 +1,0 @@
-pub mod ChoiceLaws
-pub mod CostLaws
-pub mod UnitLaws

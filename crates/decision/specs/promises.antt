@@ -1,0 +1,6 @@
+pub mod Choosing
+pub mod Deciding
+pub mod Naming
+pub mod Standing
+pub mod Testing
+pub mod Units

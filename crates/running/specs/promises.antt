@@ -1,0 +1,4 @@
+pub mod Asking
+pub mod Committing
+pub mod Forming
+pub mod Places

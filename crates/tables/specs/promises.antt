@@ -1,0 +1,5 @@
+pub mod Answers
+pub mod Columns
+pub mod FlatRows
+pub mod Laying
+pub mod Ranges

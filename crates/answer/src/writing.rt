@@ -3,10 +3,11 @@
 ghost use Prim.Native.Nat.{_+_, _*_, _≤_, _<_};
 ghost use lib.ListN.{length, getD};
 ghost use Rattle.base.specs.Search.{All};
+ghost use Rattle.base.specs.Text.{together};
 ghost use Rattle.base.specs.promises.Writing.{Wrote};
 ghost use Rattle.cells.specs.promises.Letters.{Lettered};
 ghost use Rattle.cells.specs.promises.Views.{answerRows, answerAt, answerWidth};
-ghost use Rattle.outcome.specs.Answer.{answerHeader, answerText, line, lines};
+ghost use Rattle.outcome.specs.Answer.{answerHeader, answerText, line};
 ghost use Rattle.answer.specs.promises.Parts.{numberField, letterField, lastField, idsPart, testPart, schedulePart};
 use cells::answer;
 
@@ -38,8 +39,8 @@ fn write_header(out: &mut [u8]) -> usize
 fn write_rows(cells: &[u64], n: usize, out: &mut [u8]) -> usize
     requires { ⌜ n * 7 ≤ length (now cells) ⌝ }
     requires { ⌜ All Lettered (answerRows n (now cells)) ⌝ }
-    requires { ⌜ length (lines (answerRows n (now cells))) ≤ length (now out) ⌝ }
-    ensures { λ r. ⌜ Wrote (lines (answerRows n (now (cells .entry)))) r (now (out .entry)) (now (out .exit)) ⌝ }
+    requires { ⌜ length (together line (answerRows n (now cells))) ≤ length (now out) ⌝ }
+    ensures { λ r. ⌜ Wrote (together line (answerRows n (now (cells .entry)))) r (now (out .entry)) (now (out .exit)) ⌝ }
 {
     let mut at = 0;
     let mut i = 0;

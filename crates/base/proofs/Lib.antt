@@ -8,4 +8,5 @@ pub mod RisingLaws
 pub mod SearchLaws
 pub mod Searches
 pub mod Tests
+pub mod Together
 pub mod Writers

@@ -40,21 +40,21 @@ use Rattle.checking.proofs.Rooms.{schedules-room}
 use Rattle.checking.proofs.RuleLaws.{some-none, rows-answered, refused-answered}
 
 -- what the readers' answers say of the refusal they go by
-row-answered : (o : Option Refusal) (c : List ℕ) {row : ConstraintRow} → constraintUnless o c ≡ Row row → (o ≡ none) × (row ≡ constraintOf c)
+pub row-answered : (o : Option Refusal) (c : List ℕ) {row : ConstraintRow} → constraintUnless o c ≡ Row row → (o ≡ none) × (row ≡ constraintOf c)
 row-answered none c e = (refl, cc)
 row-answered (some x) c e = let z : _≡_ {A = ℕ} 0 1 = cc in absurd (omega arith)
 
-constraint-answered : (o : Option Refusal) (c : List ℕ) {x : Refusal} → constraintUnless o c ≡ ConstraintRefused x → o ≡ some x
+pub constraint-answered : (o : Option Refusal) (c : List ℕ) {x : Refusal} → constraintUnless o c ≡ ConstraintRefused x → o ≡ some x
 constraint-answered none c e = let z : _≡_ {A = ℕ} 0 1 = cc in absurd (omega arith)
 constraint-answered (some y) c e = cc
 
-counts-answered :
+pub counts-answered :
     (o : Option Refusal) (s : List ℕ) {n k : ℕ} → supplyUnless o s ≡ SupplyRowsRead n k →
     (o ≡ none) × (n ≡ length (supplyOf s)) × (k ≡ length (units (supplyOf s)))
 counts-answered none s e = (refl, cc, cc)
 counts-answered (some x) s e = let z : _≡_ {A = ℕ} 0 1 = cc in absurd (omega arith)
 
-supply-answered : (o : Option Refusal) (s : List ℕ) {x : Refusal} → supplyUnless o s ≡ SupplyRefused x → o ≡ some x
+pub supply-answered : (o : Option Refusal) (s : List ℕ) {x : Refusal} → supplyUnless o s ≡ SupplyRefused x → o ≡ some x
 supply-answered none s e = let z : _≡_ {A = ℕ} 0 1 = cc in absurd (omega arith)
 supply-answered (some y) s e = cc
 

@@ -7,3 +7,4 @@ pub mod Steps
 pub mod Tallies
 pub mod Texts
 pub mod Walk
+pub mod Written

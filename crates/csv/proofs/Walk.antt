@@ -13,6 +13,7 @@ use lib.ListN.{length, getD, take, length-append}
 use lib.Seq.{append-snoc, take-append-seam, drop-append-add, getD-append-add, take-at}
 use Rattle.csv.specs.Grammar.{NonEscaped, Opened, Escaped, Field, Record, File}
 use Rattle.csv.specs.promises.Fields.{extent, unread, inner}
+use Rattle.csv.specs.promises.Rows.{Breaks, at-end, crlf}
 use Rattle.csv.specs.Bytes.{COMMA, CR, DQUOTE, LF}
 use Rattle.csv.proofs.Steps.{text-not}
 
@@ -97,11 +98,6 @@ module _ {r : List ℕ} (stops : extent false r ≡ 0) where
   field : {s v : List ℕ} → Field s v r → Text s v r
   field (Field.escaped e) = escaped e
   field (Field.non-escaped n) = non-escaped n
-
--- the record's end r, and what is left unread behind it
-pub data Breaks : List ℕ → List ℕ → Type 0 where
-  at-end : Breaks [] []
-  crlf : {t : List ℕ} → Breaks (CR ∷ LF ∷ t) t
 
 -- what is left unread of a record, and of the file behind it
 pub data Within : List ℕ → List (List ℕ) → List ℕ → Type 0 where

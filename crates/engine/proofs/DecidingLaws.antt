@@ -32,7 +32,7 @@ use Rattle.engine.specs.View.{viewOf}
 use Rattle.engine.specs.declared.day.Day.{Day}
 use Rattle.engine.specs.declared.deciding.Deciding.{Deciding}
 use Rattle.engine.specs.declared.deciding.Deciding.the-variants.{Rows, Refused}
-use Rattle.engine.proofs.RefusalLaws.{unless-broken, unless-kept}
+use Rattle.tables.proofs.RefusalLaws.{unless-broken, unless-kept}
 
 module _ (o : Option Refusal) (hour : ℕ) (rows : List AnswerRow) (running : List RunningUnit) (new : List ℕ) where
   pub decides-refused : (e : Refusal) (r : Deciding) → o ≡ some e → r ≡ Refused e → Decides o hour rows running new r

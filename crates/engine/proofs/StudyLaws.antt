@@ -9,6 +9,7 @@ use lib.Dec.{leb}
 use lib.ListN.{length, take, drop, length-append}
 use lib.Seq.{take-at}
 use borrow.Author.Tests.{le-leb, lt-leb}
+use Rattle.base.specs.Text.{written}
 use Rattle.base.specs.promises.Writing.{Wrote}
 use Rattle.tables.specs.declared.files.Refusal.{Refusal}
 use Rattle.tables.specs.Refusals.{bareRefusal}
@@ -18,7 +19,6 @@ use Rattle.outcome.specs.Answer.{answerText}
 use Rattle.outcome.specs.Day.{putAll, committed}
 use Rattle.outcome.specs.Study.{
   chosen,
-  written,
   outcome,
   shortBuffer,
   studyRows,
@@ -39,7 +39,7 @@ use Rattle.engine.specs.declared.day.LastHour.the-variants.{At}
 use Rattle.engine.specs.declared.studying.Study.the-variants.{Written}
 use Rattle.engine.specs.declared.studying.Studied.{Studied}
 use Rattle.engine.specs.promises.Answering.{studyRefused, Answers}
-use Rattle.engine.proofs.RefusalLaws.{unless-broken, unless-kept}
+use Rattle.tables.proofs.RefusalLaws.{unless-broken, unless-kept}
 
 module _ (day : Day) (h : ℕ) (rows : List AnswerRow) (buffer : List ℕ) where
   -- refused, with the very day and buffer

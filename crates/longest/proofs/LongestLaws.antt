@@ -4,10 +4,11 @@ use mathlib.Core.List.{List, _∷_}
 use native.Mathlib.Omega.{arith}
 use lib.ListN.{length, replicate, length-append}
 use Rattle.base.specs.Search.{All, all-none, all-more}
+use Rattle.base.specs.Text.{together}
 use Rattle.numeral.proofs.Laws.{length-longer}
 use Rattle.tables.specs.Rows.{AnswerRow}
 use Rattle.supply.specs.Supply.{mostUnits}
-use Rattle.outcome.specs.Answer.{line, lines, answerText}
+use Rattle.outcome.specs.Answer.{line, answerText}
 use Rattle.outcome.proofs.TextLengths.{line-length, text-length}
 use Rattle.longest.specs.Longest.{widestRow, longest}
 
@@ -32,15 +33,15 @@ line-most r g =
       length-longer (r .cost) (widestRow .cost) (g .cost),
     )
 
-lines-most : (n : ℕ) {rs : List AnswerRow} → All Ranged rs → length rs ≤ n → length (lines rs) ≤ length (lines (replicate n widestRow))
-unfolding lines
+lines-most : (n : ℕ) {rs : List AnswerRow} → All Ranged rs → length rs ≤ n → length (together line rs) ≤ length (together line (replicate n widestRow))
+unfolding together
 lines-most n all-none few = omega arith
 lines-most zero (all-more g a) few = absurd (omega arith)
 lines-most (suc n) {rs = r ∷ rs} (all-more g a) few =
     omega (
       arith,
-      length-append (line r) (lines rs),
-      length-append (line widestRow) (lines (replicate n widestRow)),
+      length-append (line r) (together line rs),
+      length-append (line widestRow) (together line (replicate n widestRow)),
       line-most r g,
       lines-most n a (omega arith),
     )

@@ -2,7 +2,6 @@
 -- Assumes nothing.
 use Prim.Native.Nat.{ℕ, _+_, _-_, _≤_, _<_}
 use mathlib.Core.Path.{_≡_, refl, sym, _∙_, ap, subst}
-use mathlib.Core.Bool.{Bool, true, _&&_}
 use mathlib.Core.Logic.{⊎-elim}
 use mathlib.Core.List.{List, [], _∷_, _++_, append-assoc, append-nil}
 use native.Mathlib.Omega.{arith}
@@ -10,14 +9,15 @@ use native.Mathlib.Numerals.{add-one}
 use lib.ListN.{length, getD, take, drop, length-append, length-drop}
 use lib.Seq.{take-suc, append-snoc, take-all, drop-drop}
 use Rattle.base.proofs.Lists.{drop-next, rest-lent}
-use Rattle.base.proofs.Tests.{and-fst, and-snd, lt-or-ge}
-use Rattle.csv.specs.Grammar.{NonEscaped, Opened, Escaped, Field, Record}
-use Rattle.csv.specs.Records.{textdata}
-use Rattle.csv.proofs.Steps.{textdata-holds}
+use Rattle.base.proofs.Tests.{lt-or-ge}
+use Rattle.csv.specs.Grammar.{Record}
+use Rattle.csv.specs.promises.Plain.{allText, allTexts}
+use Rattle.csv.proofs.Written.{inQuotes, quoted-field, sideBySide, fields-record}
 use Rattle.csv.specs.Bytes.{COMMA, CR, DQUOTE, LF}
 use Rattle.tables.specs.Table.{header, joined, headerText, constraintColumns, supplyColumns, schedulesColumns, parentsColumns}
 use Rattle.tables.specs.declared.files.File.{File}
 use Rattle.tables.specs.declared.files.File.the-variants.{Constraint, Supply, Schedules, Parents}
+use Rattle.tables.proofs.Written.{plain-header}
 use Rattle.onepass.specs.promises.Walk.{Begins, HeaderFound, TextAt, quotedByte, quotedBytes, quotedText}
 
 module _ (s t : List ℕ) where
@@ -107,69 +107,13 @@ begins-second s a b r t = ⊎-elim there gone (lt-or-ge 0 r)
         let none : r ≡ 0 = omega arith in
         rw none Begins.neither
 
--- fields side by side, each as `enclosed` writes it, and then r
-module _ (enclosed : List ℕ → List ℕ → List ℕ) where
-  written : List ℕ → List (List ℕ) → List ℕ → List ℕ
-  written v [] r = enclosed v r
-  written v (w ∷ vs) r = enclosed v (COMMA ∷ written w vs r)
-
-allText : List ℕ → Bool
-allText [] = true
-allText (b ∷ v) = textdata b && allText v
-
-allTexts : List (List ℕ) → Bool
-allTexts [] = true
-allTexts (v ∷ vs) = allText v && allTexts vs
-
-text-of : (v r : List ℕ) → allText v ≡ true → NonEscaped (v ++ r) v r
-unfolding allText
-text-of [] r e = NonEscaped.none
-text-of (b ∷ v) r e =
-    NonEscaped.text (textdata-holds b (and-fst (textdata b) (allText v) e)) (text-of v r (and-snd (textdata b) (allText v) e))
-
-opened-of : (v r : List ℕ) → allText v ≡ true → Opened (v ++ DQUOTE ∷ r) v r
-unfolding allText
-opened-of [] r e = Opened.close
-opened-of (b ∷ v) r e =
-    Opened.text (textdata-holds b (and-fst (textdata b) (allText v) e)) (opened-of v r (and-snd (textdata b) (allText v) e))
-
-plainly : List ℕ → List ℕ → List ℕ
-plainly v r = v ++ r
-
-inQuotes : List ℕ → List ℕ → List ℕ
-inQuotes v r = DQUOTE ∷ (v ++ DQUOTE ∷ r)
-
-plain-field : (v r : List ℕ) → allText v ≡ true → Field (plainly v r) v r
-unfolding plainly
-plain-field v r e = Field.non-escaped (text-of v r e)
-
-quoted-field : (v r : List ℕ) → allText v ≡ true → Field (inQuotes v r) v r
-unfolding inQuotes
-quoted-field v r e = Field.escaped (Escaped.dquote (opened-of v r e))
-
-written-record :
-    (enclosed : List ℕ → List ℕ → List ℕ) → ((v r : List ℕ) → allText v ≡ true → Field (enclosed v r) v r) →
-    (v : List ℕ) (vs : List (List ℕ)) (r : List ℕ) → allTexts (v ∷ vs) ≡ true → Record (written enclosed v vs r) (v ∷ vs) r
-unfolding allTexts written
-written-record enclosed f v [] r e = Record.last (f v r (and-fst (allText v) true e))
-written-record enclosed f v (w ∷ vs) r e =
-    Record.more (f v (COMMA ∷ written enclosed w vs r) (and-fst (allText v) (allTexts (w ∷ vs)) e))
-    (written-record enclosed f w vs r (and-snd (allText v) (allTexts (w ∷ vs)) e))
-
--- the two texts of a file's header
-plain-header : (f : File) (r : List ℕ) → Record (headerText f ++ r) (header f) (CR ∷ LF ∷ r)
-unfolding headerText joined header constraintColumns supplyColumns schedulesColumns parentsColumns written plainly allTexts allText
-plain-header Constraint r = written-record plainly plain-field _ _ _ refl
-plain-header Supply r = written-record plainly plain-field _ _ _ refl
-plain-header Schedules r = written-record plainly plain-field _ _ _ refl
-plain-header Parents r = written-record plainly plain-field _ _ _ refl
-
+-- a header in quotes is a record of the columns' names
 quoted-header : (f : File) (r : List ℕ) → Record (quotedText (headerText f) ++ r) (header f) (CR ∷ LF ∷ r)
-unfolding quotedText quotedBytes quotedByte headerText joined header constraintColumns supplyColumns schedulesColumns parentsColumns written inQuotes allTexts allText
-quoted-header Constraint r = written-record inQuotes quoted-field _ _ _ refl
-quoted-header Supply r = written-record inQuotes quoted-field _ _ _ refl
-quoted-header Schedules r = written-record inQuotes quoted-field _ _ _ refl
-quoted-header Parents r = written-record inQuotes quoted-field _ _ _ refl
+unfolding quotedText quotedBytes quotedByte headerText joined header constraintColumns supplyColumns schedulesColumns parentsColumns sideBySide inQuotes allTexts allText
+quoted-header Constraint r = fields-record inQuotes quoted-field _ _ _ refl
+quoted-header Supply r = fields-record inQuotes quoted-field _ _ _ refl
+quoted-header Schedules r = fields-record inQuotes quoted-field _ _ _ refl
+quoted-header Parents r = fields-record inQuotes quoted-field _ _ _ refl
 
 module _ (f : File) (s : List ℕ) where
   header-at :

@@ -14,7 +14,7 @@ use lib.ListN.{length, getD, take, drop, set, length-append, length-drop, length
 use lib.Seq.{take-suc, take-suc-set, drop-set-lt, getD-drop, drop-drop, take-append-add, drop-append-add, length-take-le}
 use Rattle.base.proofs.Lists.{drop-next, drop-end, drop-back, rest-lent, rest-back}
 use Rattle.csv.specs.Grammar.{Field, Record}
-use Rattle.csv.proofs.Walk.{Breaks, at-end, crlf}
+use Rattle.csv.specs.promises.Rows.{Breaks, at-end, crlf, Rows}
 use Rattle.csv.specs.Bytes.{COMMA, CR, LF}
 use Rattle.tables.specs.Table.{Form, numeral, signed, letter, Column, column, constraintColumns, supplyColumns, schedulesColumns, parentsColumns, table, width}
 use Rattle.tables.specs.Values.{value, inForm}
@@ -23,7 +23,8 @@ use Rattle.tables.specs.declared.files.File.{File}
 use Rattle.tables.specs.declared.files.File.the-variants.{Constraint, Supply, Schedules, Parents}
 use Rattle.tables.proofs.ColumnLaws.{formNumber, form-at, minimum-at, maximum-at, minimum-small, maximum-small}
 use Rattle.tables.specs.promises.Columns.{allColumns, columnCount, firstColumn, columnAt}
-use Rattle.onepass.specs.promises.Walk.{FieldFound, formOf, Ranges, Separates, SeparatorFound, CellsOf, RowFound, Rows, RowsOf, RowsFound}
+use Rattle.tables.specs.promises.RowCells.{CellsOf, RowsOf}
+use Rattle.onepass.specs.promises.Walk.{FieldFound, formOf, Ranges, Separates, SeparatorFound, RowFound, RowsFound}
 use Rattle.onepass.specs.declared.fields.Found.{Found}
 
 -- separators

@@ -3,9 +3,10 @@ use Prim.Native.Nat.{ℕ}
 use mathlib.Core.Path.{_≡_, refl, _∙_}
 use mathlib.Core.Logic.{_↔_}
 use mathlib.Core.List.{List, [], _∷_}
+use Rattle.base.specs.Text.{together}
 use Rattle.numeral.specs.Numeral.{digits}
 use Rattle.numeral.proofs.Laws.{numeral-digits, digits-numeral}
-use Rattle.outcome.specs.Answer.{line, lines, answerText}
+use Rattle.outcome.specs.Answer.{line, answerText}
 use Rattle.outcome.specs.Layout.{Line, Lines, InLayout, Lines.end, Lines.next}
 use Rattle.tables.specs.Rows.{AnswerRow}
 
@@ -40,17 +41,17 @@ text-line r =
     }
 
 -- the records of all rows
-lines-text : {rs : List AnswerRow} {text : List ℕ} → Lines rs text → text ≡ lines rs
-unfolding lines
+lines-text : {rs : List AnswerRow} {text : List ℕ} → Lines rs text → text ≡ together line rs
+unfolding together
 lines-text end = refl
 lines-text (next l more e) = e ∙ rw (line-text l, lines-text more)
 
-text-lines : (rs : List AnswerRow) → Lines rs (lines rs)
-unfolding lines
+text-lines : (rs : List AnswerRow) → Lines rs (together line rs)
+unfolding together
 text-lines [] = end
 text-lines (r ∷ rs) = next (text-line r) (text-lines rs) refl
 
 pub layout-text : (rs : List AnswerRow) (text : List ℕ) → InLayout rs text ↔ (text ≡ answerText rs)
 unfolding answerText
 layout-text rs text =
-    (λ l. l .laid-out ∙ rw (lines-text (l .records)), λ e. record { body = lines rs; laid-out = e; records = text-lines rs })
+    (λ l. l .laid-out ∙ rw (lines-text (l .records)), λ e. record { body = together line rs; laid-out = e; records = text-lines rs })

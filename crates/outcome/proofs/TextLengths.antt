@@ -4,10 +4,11 @@ use mathlib.Core.Path.{_≡_, refl, _∙_}
 use mathlib.Core.List.{List, _∷_, _++_}
 use native.Mathlib.Omega.{arith}
 use lib.ListN.{length, length-append}
+use Rattle.base.specs.Text.{together}
 use Rattle.numeral.specs.Numeral.{digits}
 use Rattle.tables.specs.Rows.{AnswerRow}
 use Rattle.csv.specs.Bytes.{COMMA}
-use Rattle.outcome.specs.Answer.{CRLF, answerHeader, line, lines, answerText}
+use Rattle.outcome.specs.Answer.{CRLF, answerHeader, line, answerText}
 
 pub header-length : length answerHeader ≡ 47
 unfolding answerHeader
@@ -35,9 +36,9 @@ line-length r =
       length-append (unit ++ supplier ++ tested ++ schedule ++ chosen) CRLF,
     )
 
-pub text-parts : (rs : List AnswerRow) → length (answerText rs) ≡ length answerHeader + length (lines rs)
+pub text-parts : (rs : List AnswerRow) → length (answerText rs) ≡ length answerHeader + length (together line rs)
 unfolding answerText
-text-parts rs = length-append answerHeader (lines rs)
+text-parts rs = length-append answerHeader (together line rs)
 
-pub text-length : (rs : List AnswerRow) → length (answerText rs) ≡ 47 + length (lines rs)
+pub text-length : (rs : List AnswerRow) → length (answerText rs) ≡ 47 + length (together line rs)
 text-length rs = text-parts rs ∙ rw header-length

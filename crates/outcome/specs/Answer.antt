@@ -3,7 +3,7 @@
 -- rows out of a flat run of cells, one row behind the other. Assumes nothing.
 use Prim.Native.Nat.{ℕ}
 use mathlib.Core.List.{List, [], _∷_, _++_}
-use Rattle.base.specs.Text.{bytes}
+use Rattle.base.specs.Text.{bytes, together}
 use Rattle.numeral.specs.Numeral.{digits}
 use Rattle.tables.specs.Rows.{AnswerRow}
 use Rattle.csv.specs.Bytes.{COMMA, CR, LF}
@@ -21,9 +21,5 @@ line r =
     digits (r .unit) ++ COMMA ∷ digits (r .supplier) ++ COMMA ∷ r .verdict ∷ COMMA ∷ digits (r .left) ++ COMMA
     ∷ digits (r .schedule) ++ COMMA ∷ r .kind ∷ COMMA ∷ digits (r .cost) ++ CRLF
 
-unfoldable pub lines : List AnswerRow → List ℕ
-lines [] = []
-lines (r ∷ rs) = line r ++ lines rs
-
 unfoldable pub answerText : List AnswerRow → List ℕ
-answerText rs = answerHeader ++ lines rs
+answerText rs = answerHeader ++ together line rs

@@ -6,8 +6,9 @@ use mathlib.Core.Bool.{not}
 use mathlib.Core.List.{List, [], _∷_, _++_, map}
 use mathlib.Core.Option.{Option, none, some, Option·map}
 use lib.Dec.{leb}
-use lib.ListN.{length, drop}
+use lib.ListN.{length}
 use Rattle.base.specs.Search.{firstOf}
+use Rattle.base.specs.Text.{written}
 use Rattle.tables.specs.Rows.{SupplyRow, ScheduleRow, kindOf, AnswerRow}
 use Rattle.tables.specs.declared.constraint.ConstraintRow.{ConstraintRow}
 use Rattle.tables.specs.declared.files.File.the-variants.{Schedules}
@@ -22,10 +23,6 @@ use Rattle.outcome.specs.Decision.{decided, noCostSchedule}
 -- what an answer's row has running
 unfoldable pub chosen : AnswerRow → RunningUnit
 chosen r = record { unit = r .unit; schedule = r .schedule; kind = kindOf (r .kind) }
-
--- the bytes of a buffer once a text is written from its start: "Bytes past the answer stay"
-unfoldable pub written : List ℕ → List ℕ → List ℕ
-written text buffer = text ++ drop (length text) buffer
 
 -- what a study gives: number, file and place as they are told, how many bytes are written, the day, and every byte of the buffer
 pub record Outcome : Type 0 where

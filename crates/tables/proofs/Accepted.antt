@@ -59,23 +59,27 @@ pub record Accepted (f : File) (s : List ℕ) : Type 0 where
   pub viewed : (more : List ℕ) → rowsOf (width f) (length (rows s)) (laid f s ++ more) ≡ map (cells (table f .columns)) (rows s)
 
 module _ (f : File) (s : List ℕ) (e : refusal f s ≡ none) where
-  parts : (misshapen f s ≡ none) × (malformed f (rows s) ≡ none)
+  -- refusal by refusal
+  pub parts : (misshapen f s ≡ none) × (malformed f (rows s) ≡ none)
   unfolding refusal
   parts =
       let a = first-of-none (misshapen f s) _ e in
       (a .0, option-map-none (refused 3 f) (malformed f (rows s)) (first-of-none _ [] (a .1) .0))
 
-  shape : (misfit f (records s) ≡ none) × (miscount f (length (rows s)) ≡ none)
+  pub shape : (irregular s ≡ none) × (misfit f (records s) ≡ none) × (miscount f (length (rows s)) ≡ none)
   unfolding misshapen
   shape =
       let a = first-of-none (Option·map (refused 1 f) (irregular s)) _ (parts .0) in
       let b = first-of-none (Option·map (refused 2 f) (misfit f (records s))) _ (a .1) in
-      let c = first-of-none (Option·map (refused 4 f) (miscount f (length (rows s)))) [] (b .1) in
-      (option-map-none (refused 2 f) (misfit f (records s)) (b .0), option-map-none (refused 4 f) (miscount f (length (rows s))) (c .0))
+      let c = first-of-none (Option·map (refused 4 f) (miscount f (length (rows s)))) [] (b .1) in (
+        option-map-none (refused 1 f) (irregular s) (a .0),
+        option-map-none (refused 2 f) (misfit f (records s)) (b .0),
+        option-map-none (refused 4 f) (miscount f (length (rows s))) (c .0),
+      )
 
   counted : (table f .fewestRows ≤ length (rows s)) × (length (rows s) ≤ table f .mostRows)
   unfolding miscount
-  counted = go (leb (table f .fewestRows) (length (rows s)) && leb (length (rows s)) (table f .mostRows)) refl (shape .1)
+  counted = go (leb (table f .fewestRows) (length (rows s)) && leb (length (rows s)) (table f .mostRows)) refl (shape .2)
     where
       go :
           (t : Bool) → (leb (table f .fewestRows) (length (rows s)) && leb (length (rows s)) (table f .mostRows)) ≡ t →
@@ -86,9 +90,9 @@ module _ (f : File) (s : List ℕ) (e : refusal f s ≡ none) where
       )
       go false q z = let o : _≡_ {A = ℕ} 0 1 = cc in absurd (omega arith)
 
-  fitting : All (λ (vs : List (List ℕ)). eqb (width f) (length vs) ≡ true) (rows s)
+  pub fitting : All (λ (vs : List (List ℕ)). eqb (width f) (length vs) ≡ true) (rows s)
   unfolding misfit rows
-  fitting = go (records s) (shape .0)
+  fitting = go (records s) (shape .1)
     where
       go : (rs : List (List (List ℕ))) → misfit f rs ≡ none → All (λ (vs : List (List ℕ)). eqb (width f) (length vs) ≡ true) (drop 1 rs)
       go [] z = all-none

@@ -6,5 +6,7 @@ pub mod Forms
 pub mod HeaderLaws
 pub mod Permitted
 pub mod ReadLaws
+pub mod RefusalLaws
 pub mod RowLaws
 pub mod Starred
+pub mod Written

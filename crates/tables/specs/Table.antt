@@ -112,9 +112,12 @@ joined [] = []
 joined (v ∷ []) = v
 joined (v ∷ w ∷ vs) = v ++ COMMA ∷ joined (w ∷ vs)
 
--- a header's record, with the CR LF behind it
+-- a record of some fields, unquoted, with the CR LF behind it
+abbrev pub recordText : List (List ℕ) → List ℕ
+recordText vs = joined vs ++ CR ∷ LF ∷ []
+
 unfoldable pub headerText : File → List ℕ
-headerText f = joined (header f) ++ CR ∷ LF ∷ []
+headerText f = recordText (header f)
 
 unfoldable pub width : File → ℕ
 width f = length (table f .columns)

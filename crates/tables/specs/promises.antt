@@ -3,3 +3,4 @@ pub mod Columns
 pub mod FlatRows
 pub mod Laying
 pub mod Ranges
+pub mod RowCells

@@ -8,12 +8,12 @@ use mathlib.Core.Option.{Option, some}
 use lib.Dec.{eqb}
 use lib.ListN.{length, take, drop}
 use Rattle.csv.specs.Grammar.{NonEscaped, Field, Record}
-use Rattle.csv.proofs.Walk.{Breaks}
 use Rattle.csv.specs.Bytes.{COMMA, CR, DQUOTE, LF}
+use Rattle.csv.specs.promises.Rows.{Breaks, Rows}
 use Rattle.tables.specs.Table.{Form, numeral, signed, letter, Column, table, header, width}
-use Rattle.tables.specs.Values.{value}
 use Rattle.tables.proofs.ColumnLaws.{forms as allForms, minima as allMinima, maxima as allMaxima}
 use Rattle.tables.specs.promises.Laying.{FileRead}
+use Rattle.tables.specs.promises.RowCells.{CellsOf, RowsOf}
 use Rattle.tables.specs.declared.files.File.{File}
 use Rattle.tables.specs.declared.files.Reading.the-variants.{Rows as RowsRead}
 use Rattle.onepass.specs.declared.fields.Found.{Found}
@@ -77,13 +77,6 @@ pub data Separates : Bool → List ℕ → List ℕ → Type 0 where
 pub record SeparatorFound (s : List ℕ) (at : ℕ) (more : Bool) (next : ℕ) : Type 0 where
   pub found : 0 < next → Separates more (drop at s) (drop next s) × (next ≤ length s)
 
--- the values of a row beside their cells
-pub data CellsOf : List Column → List (List ℕ) → List ℕ → Type 0 where
-  none : CellsOf [] [] []
-  more :
-      {c : Column} {cs : List Column} {v : List ℕ} {vs : List (List ℕ)} {x : ℕ} {xs : List ℕ} →
-      value c v ≡ some x → CellsOf cs vs xs → CellsOf (c ∷ cs) (v ∷ vs) (x ∷ xs)
-
 -- a row at the start of s
 pub record Rowed (f : File) (s : List ℕ) (next : ℕ) (xs : List ℕ) : Type 0 where
   pub values : List (List ℕ)
@@ -95,20 +88,6 @@ pub record Rowed (f : File) (s : List ℕ) (next : ℕ) (xs : List ℕ) : Type 0
 
 pub record RowFound (f : File) (s old new : List ℕ) (next : ℕ) : Type 0 where
   pub found : 0 < next → Rowed f s next (take (width f) new) × (drop (width f) new ≡ drop (width f) old)
-
--- s is records of some values, and then r
-pub data Rows : List ℕ → List (List (List ℕ)) → List ℕ → Type 0 where
-  none : {s : List ℕ} → Rows s [] s
-  more :
-      {b : ℕ} {s e t r : List ℕ} {v : List (List ℕ)} {vs : List (List (List ℕ))} →
-      Record (b ∷ s) v e → Breaks e t → Rows t vs r → Rows (b ∷ s) (v ∷ vs) r
-
--- the values of rows beside their cells
-pub data RowsOf (cs : List Column) : List (List (List ℕ)) → List ℕ → Type 0 where
-  none : RowsOf cs [] []
-  more :
-      {v : List (List ℕ)} {vs : List (List (List ℕ))} {x xs : List ℕ} →
-      CellsOf cs v x → RowsOf cs vs xs → RowsOf cs (v ∷ vs) (x ++ xs)
 
 -- all rows of a file, where s begins with the first
 pub record AllRows (f : File) (s : List ℕ) (count : ℕ) (old new : List ℕ) : Type 0 where

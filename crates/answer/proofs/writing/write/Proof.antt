@@ -5,7 +5,7 @@ use Rattle.base.proofs.Lists.{rest-lent}
 use Rattle.cells.specs.promises.Views.{answerRows}
 use Rattle.outcome.specs.Answer.{answerText}
 use Rattle.outcome.proofs.TextLengths.{text-parts}
-use Rattle.answer.proofs.WriteLaws.{wrote-next}
+use Rattle.base.proofs.Writers.{wrote-next}
 use borrow.Author.Needs.{needs}
 use Rattle.answer.proofs.writing.write.Statement.{statement}
 use Rattle.answer.proofs.writing.write.Tie as tie

@@ -4,7 +4,7 @@ use lib.ListN.{length-drop}
 use Rattle.base.proofs.Lists.{rest-lent}
 use Rattle.cells.specs.promises.Views.{answerAt}
 use Rattle.answer.proofs.LineLaws.{line-parts, line-parts-length}
-use Rattle.answer.proofs.WriteLaws.{wrote-next}
+use Rattle.base.proofs.Writers.{wrote-next}
 use borrow.Author.Needs.{needs}
 use Rattle.answer.proofs.writing.write_row.Statement.{statement}
 use Rattle.answer.proofs.writing.write_row.Tie as tie

@@ -34,16 +34,12 @@ pub struct Filing {
 impl Filing {
     /// Reads the files: "file by file 1, 2, 4, 3, 5, 6, 7, each over the whole file; then 8, 9". Those of
     /// the parents stand behind 7: "35 a supplier given two parents, and then with 36 a chain that returns
-    /// to its start", and "1 to 4 apply before them".
+    /// to its start", and "1 to 4 apply before them". As far as 6, a file is read alone.
     pub fn read(files: &Files) -> Result<Filing, Refusal> {
         let constraint = read_constraint(files.constraint)?;
+        let supply = read_supply_alone(files.supply)?;
 
-        let supply = read_supply(files.supply)?;
-        refuse_where(one_too_many(&supply), 5, 2)?;
-        refuse_where(supply_at_odds(&supply), 6, 2)?;
-
-        let schedules = read_schedules(files.schedules)?;
-        refuse_where(schedules_at_odds(&schedules), 6, 3)?;
+        let schedules = read_schedules_alone(files.schedules)?;
         refuse_where(stray(&schedules, &supply), 7, 3)?;
 
         let parents = read_parents(files.parents)?;
@@ -90,6 +86,21 @@ impl Filing {
         };
         self.units().into_iter().find(|&unit| lacks(unit))
     }
+}
+
+/// The rows of the supply file, which agree with each other.
+pub fn read_supply_alone(file: &[u8]) -> Result<Vec<Supply>, Refusal> {
+    let supply = read_supply(file)?;
+    refuse_where(one_too_many(&supply), 5, 2)?;
+    refuse_where(supply_at_odds(&supply), 6, 2)?;
+    Ok(supply)
+}
+
+/// The rows of the schedules file, which agree with each other, whatever the supply file has.
+pub fn read_schedules_alone(file: &[u8]) -> Result<Vec<Schedule>, Refusal> {
+    let schedules = read_schedules(file)?;
+    refuse_where(schedules_at_odds(&schedules), 6, 3)?;
+    Ok(schedules)
 }
 
 /// "With study hour h, a schedule's run is the hours from h to the lesser of h + minrun - 1 and 23".

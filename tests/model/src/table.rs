@@ -1,4 +1,5 @@
-//! The fixed table of columns and ranges, and the reading of one file by it: refusals 1, 2, 4, 3.
+//! The fixed table of columns and ranges, the reading of one file by it (refusals 1, 2, 4, 3), and rows as
+//! they are written.
 
 use std::ops::RangeInclusive;
 
@@ -107,6 +108,13 @@ pub struct Constraint {
     pub cutoff: u64,
 }
 
+impl Constraint {
+    /// The row as it is written.
+    pub fn fields(&self) -> Record {
+        [self.hour, self.relief, self.cutoff].map(text).to_vec()
+    }
+}
+
 /// A row of the supply file.
 #[derive(Clone, Copy, Debug)]
 pub struct Supply {
@@ -115,6 +123,15 @@ pub struct Supply {
     pub mw: u64,
     pub cost: u64,
     pub dfax: i64,
+}
+
+impl Supply {
+    /// The row as it is written.
+    pub fn fields(&self) -> Record {
+        let mut fields = [self.unit, self.supplier, self.mw, self.cost].map(text).to_vec();
+        fields.push(text(self.dfax));
+        fields
+    }
 }
 
 /// A row of the schedules file.
@@ -131,11 +148,34 @@ pub struct Schedule {
     pub minrun: u64,
 }
 
+impl Schedule {
+    /// The row as it is written.
+    pub fn fields(&self) -> Record {
+        let mut fields = [self.unit, self.schedule].map(text).to_vec();
+        fields.push(text(self.kind.letter()));
+        fields.extend([self.hour, self.ecomin, self.price, self.noload, self.startup, self.minrun].map(text));
+        fields
+    }
+}
+
 /// A row of the parents file: it "names a parent for a supplier".
 #[derive(Clone, Copy, Debug, PartialEq, Eq)]
 pub struct Parent {
     pub supplier: u64,
     pub parent: u64,
+}
+
+impl Parent {
+    /// The row as it is written.
+    pub fn fields(&self) -> Record {
+        [self.supplier, self.parent].map(text).to_vec()
+    }
+}
+
+/// A number, letter or name as a field: "digits with no sign and no leading zero", and "`-` before a
+/// nonzero numeral" where a number is negative.
+fn text(value: impl ToString) -> Field {
+    value.to_string().into_bytes()
 }
 
 /// The rows of the constraint file, of which there is exactly one.
@@ -211,6 +251,11 @@ impl Value {
 }
 
 impl Table {
+    /// The header record: the name of every column, in order.
+    pub fn header(&self) -> Record {
+        self.columns.iter().map(|column| text(column.name)).collect()
+    }
+
     /// The rows of a file, or its first refusal: "1, 2, 4, 3, ... each over the whole file".
     fn read(&self, file: &[u8]) -> Result<Vec<Vec<Value>>, Refusal> {
         let records = csv::records(file).ok_or(Refusal::at(1, self.file, 0))?;
@@ -227,16 +272,11 @@ impl Table {
     /// "Header differs, or a record has another field count (first such record, header 0)".
     fn misshapen(&self, records: &[Record]) -> Option<u64> {
         let (header, rows) = records.split_first()?;
-        if !self.is_header(header) {
+        if *header != self.header() {
             return Some(0);
         }
         let place = rows.iter().position(|row| row.len() != self.columns.len())?;
         Some(place as u64 + 1)
-    }
-
-    /// The header record names every column, in order.
-    fn is_header(&self, record: &Record) -> bool {
-        record.iter().map(Vec::as_slice).eq(self.columns.iter().map(|column| column.name.as_bytes()))
     }
 
     /// The values of a row, where every field is well-formed and in range.

@@ -2,7 +2,7 @@
 
 use super::random::Random;
 use crate::csv::{Field, Record};
-use crate::table::{Column, Constraint, Parent, Schedule, Supply, Table};
+use crate::table::{Constraint, Parent, Schedule, Supply, Table};
 use crate::table::{CONSTRAINT, PARENTS, SCHEDULES, SUPPLY};
 
 /// The largest file that the program takes.
@@ -16,38 +16,23 @@ pub struct Sheet {
 
 impl Sheet {
     pub fn constraint(row: &Constraint) -> Sheet {
-        let fields = [row.hour, row.relief, row.cutoff].map(text).to_vec();
-        Sheet::of(&CONSTRAINT, vec![fields])
+        Sheet::of(&CONSTRAINT, vec![row.fields()])
     }
 
     pub fn supply(rows: &[Supply]) -> Sheet {
-        let record = |row: &Supply| {
-            let mut fields = [row.unit, row.supplier, row.mw, row.cost].map(text).to_vec();
-            fields.push(text(row.dfax));
-            fields
-        };
-        Sheet::of(&SUPPLY, rows.iter().map(record).collect())
+        Sheet::of(&SUPPLY, rows.iter().map(Supply::fields).collect())
     }
 
     pub fn schedules(rows: &[Schedule]) -> Sheet {
-        let record = |row: &Schedule| {
-            let mut fields = [row.unit, row.schedule].map(text).to_vec();
-            fields.push(text(row.kind.letter()));
-            let numbers = [row.hour, row.ecomin, row.price, row.noload, row.startup, row.minrun];
-            fields.extend(numbers.map(text));
-            fields
-        };
-        Sheet::of(&SCHEDULES, rows.iter().map(record).collect())
+        Sheet::of(&SCHEDULES, rows.iter().map(Schedule::fields).collect())
     }
 
     pub fn parents(rows: &[Parent]) -> Sheet {
-        let record = |row: &Parent| [row.supplier, row.parent].map(text).to_vec();
-        Sheet::of(&PARENTS, rows.iter().map(record).collect())
+        Sheet::of(&PARENTS, rows.iter().map(Parent::fields).collect())
     }
 
     fn of(table: &'static Table, rows: Vec<Record>) -> Sheet {
-        let header = table.columns.iter().map(|column: &Column| text(column.name)).collect();
-        let mut records = vec![header];
+        let mut records = vec![table.header()];
         records.extend(rows);
         Sheet { table, records }
     }
@@ -61,9 +46,7 @@ impl Sheet {
     pub fn write(&self, random: &mut Random) -> Vec<u8> {
         let quoted_percent = random.pick(&[0, 0, 0, 0, 20, 50, 100]);
         let mut bytes = self.join(|_| random.percent(quoted_percent));
-        if random.percent(30) {
-            bytes.truncate(bytes.len() - 2);
-        }
+        drop_last_end(&mut bytes, random);
         bytes
     }
 
@@ -109,8 +92,11 @@ impl Sheet {
     }
 }
 
-fn text(value: impl ToString) -> Field {
-    value.to_string().into_bytes()
+/// Takes the last CR LF away, now and then.
+pub fn drop_last_end(bytes: &mut Vec<u8>, random: &mut Random) {
+    if random.percent(30) {
+        bytes.truncate(bytes.len() - 2);
+    }
 }
 
 /// A field, quoted where it has to be or is to be.

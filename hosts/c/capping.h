@@ -21,6 +21,14 @@ extern "C" {
 /* A buffer of so many bytes holds the longest answer file. */
 #define CAPPING_LONGEST_ANSWER 2799
 
+/* The files that can be handed back tidy, and how many bytes hold the longest tidy file of each. */
+#define CAPPING_CONSTRAINT 1
+#define CAPPING_SUPPLY 2
+#define CAPPING_SCHEDULES 3
+#define CAPPING_LONGEST_TIDY_CONSTRAINT 38
+#define CAPPING_LONGEST_TIDY_SUPPLY 7964
+#define CAPPING_LONGEST_TIDY_SCHEDULES 52284
+
 /* What to pass for parents and its length where there is no such file: no bytes, behind a pointer that isn't NULL. */
 #define CAPPING_NO_PARENTS (const uint8_t *)"", 0
 
@@ -53,6 +61,21 @@ uint64_t capping_study(const uint8_t *constraint, size_t constraint_len,
                        const uint8_t *parents, size_t parents_len,
                        uint8_t *answer, size_t answer_len,
                        uint64_t report[3]);
+
+/* Reads one file alone, CAPPING_CONSTRAINT, CAPPING_SUPPLY or CAPPING_SCHEDULES, and hands it back tidy, as the engine understood
+ * it: unquoted, CR LF after each record, the header, then the rows in their order. It is written from the start of the buffer.
+ *
+ * Answers how many bytes it wrote; the rest of the buffer stays. Where the file is refused it answers 0, and no byte of the buffer
+ * has changed. The report is then number, file and place, the first of 1 to 6 that the file alone gives: what units the other
+ * files have plays no part. It is 0, 0, 0 where the file is accepted. A buffer shorter than the tidy file is refused with 30, and
+ * any other number of a file with 2, 0, 0. */
+uint64_t capping_tidy(uint64_t file, const uint8_t *bytes, size_t bytes_len,
+                      uint8_t *tidy, size_t tidy_len,
+                      uint64_t report[3]);
+
+/* How many bytes the longest tidy file has, as the constants above: a buffer of so many is never refused with 30. 0 for any other
+ * number of a file. */
+uint64_t capping_longest_tidy(uint64_t file);
 
 /* Tests one supplier: amounts, one per supplier, the place of the one tested (from 0), and the need.
  *

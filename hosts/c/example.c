@@ -1,5 +1,5 @@
-/* What a caller writes: a day with a study of files that are read into memory, what runs then, and the release of a unit; and the
- * test of the last of four suppliers. */
+/* What a caller writes: a day with a study of files that are read into memory, what runs then, and the release of a unit; one of the
+ * files handed back tidy; and the test of the last of four suppliers. */
 #include "capping.h"
 
 #include <inttypes.h>
@@ -41,6 +41,10 @@ int main(void) {
     uint64_t lowest = capping_day_unit(day, 0);
     if (capping_day_release(day, lowest, report) == 0)
         printf("unit %" PRIu64 " is released, %" PRIu64 " run\n", lowest, capping_day_count(day));
+
+    uint8_t tidy[CAPPING_LONGEST_TIDY_SUPPLY];
+    count = capping_tidy(CAPPING_SUPPLY, s, s_len, tidy, sizeof tidy, report);
+    fwrite(tidy, 1, count, stdout);
 
     uint64_t amounts[] = {4, 3, 2, 1}, left;
     if (capping_test(amounts, 4, 3, 2, &left) == CAPPING_P) printf("P, left %d\n", (int)left);

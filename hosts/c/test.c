@@ -148,15 +148,6 @@ static void expect_chains(void) {
     expect_study_with(chain, &too_many, NULL);
 }
 
-/* A supply file of so many rows: units 1 to units and suppliers 1 to suppliers, over and over. */
-static const char *supply_of(unsigned rows, unsigned units, unsigned suppliers) {
-    static char text[16384];
-    size_t at = (size_t)snprintf(text, sizeof text, "%s", SUPPLY);
-    for (unsigned row = 0; row < rows; row++)
-        at += (size_t)snprintf(text + at, sizeof text - at, "%u,%u,1000,3000,5000\r\n", row % units + 1, row % suppliers + 1);
-    return text;
-}
-
 int main(void) {
     for (size_t i = 0; i < sizeof examples / sizeof *examples; i++)
         expect_check(examples[i].name, examples[i].number, examples[i].files);

@@ -25,6 +25,17 @@ static pthread_mutex_t start = PTHREAD_MUTEX_INITIALIZER;
 /* The longest chain of parents, which takes the most stack; written before the threads begin. */
 static char chain[CHAIN_ROOM];
 
+/* Tidies the starred schedules, which are tidy. Answers how much went wrong. */
+static int tidy_once(struct lent files) {
+    uint8_t tidy[sizeof STARRED_SCHEDULES];
+    uint64_t report[3];
+    size_t length = files.schedules_len;
+    int wrong = 0;
+    wrong += capping_tidy(CAPPING_SCHEDULES, files.schedules, length, tidy, sizeof tidy, report) != length;
+    wrong += memcmp(tidy, STARRED_SCHEDULES, length) != 0;
+    return wrong;
+}
+
 /* Studies on a day with the worker's unit, and releases that unit. Answers how much went wrong. */
 static int work_once(uint64_t unit, struct lent files, const uint8_t *parents, size_t parents_len) {
     uint64_t day[CAPPING_DAY_CELLS], studied[CAPPING_DAY_CELLS], report[3];
@@ -52,7 +63,7 @@ static void *work(void *given) {
     pthread_mutex_lock(&start);
     pthread_mutex_unlock(&start);
     for (int round = 0; round < ROUNDS; round++)
-        w->wrong += work_once(w->unit, files, parents, parents_len);
+        w->wrong += work_once(w->unit, files, parents, parents_len) + tidy_once(files);
     free(parents);
     take_back(files);
     return NULL;
@@ -75,7 +86,7 @@ int main(void) {
     pthread_mutex_unlock(&start);
     for (int i = 0; i < THREADS; i++) {
         pthread_join(workers[i].thread, NULL);
-        require("threads", "a wrong day", workers[i].wrong == 0);
+        require("threads", "a wrong day or tidy file", workers[i].wrong == 0);
     }
     pthread_attr_destroy(&small);
     return failures == 0 ? 0 : 1;

@@ -42,6 +42,15 @@ static inline void write_chain(char text[CHAIN_ROOM], unsigned rows) {
         at += (size_t)snprintf(text + at, CHAIN_ROOM - at, "%u,%u\r\n", supplier, supplier + 1);
 }
 
+/* A supply file of so many rows: units 1 to units and suppliers 1 to suppliers, over and over. */
+static inline const char *supply_of(unsigned rows, unsigned units, unsigned suppliers) {
+    static char text[16384];
+    size_t at = (size_t)snprintf(text, sizeof text, "%s", SUPPLY);
+    for (unsigned row = 0; row < rows; row++)
+        at += (size_t)snprintf(text + at, sizeof text - at, "%u,%u,1000,3000,5000\r\n", row % units + 1, row % suppliers + 1);
+    return text;
+}
+
 /* The files of a study but for parents, as their texts. */
 struct files {
     const char *constraint;
@@ -115,23 +124,43 @@ static inline void take_back(struct lent l) {
     free(l.schedules);
 }
 
+/* What a call writes into: a buffer and a report. */
+struct room {
+    uint8_t *buffer;
+    size_t length;
+    uint64_t *report;
+};
+
+#define REPORT_BYTES (3 * sizeof(uint64_t))
+#define ROOM(r) (r).buffer, (r).length, (r).report
+
+static inline struct room lend_room(size_t length) {
+    struct room r = {untouched(length), length, untouched(REPORT_BYTES)};
+    return r;
+}
+
+/* Requires that a call wrote just this text, none where it is refused, and reported just this. Takes the room back. */
+static inline void expect_written(const char *name, struct room r, uint64_t count, const char *text, const uint64_t report[3]) {
+    size_t length = strlen(text), changed = 0;
+    for (size_t i = length; i < r.length; i++)
+        changed += r.buffer[i] != UNTOUCHED_BYTE;
+    require(name, "another count", count == length);
+    require(name, "another text", length <= r.length && memcmp(r.buffer, text, length) == 0);
+    require(name, "a byte changed past the text", changed == 0);
+    require(name, "another report", memcmp(r.report, report, REPORT_BYTES) == 0);
+    free(r.report);
+    free(r.buffer);
+}
+
 /* Studies with a parents file, as its text, on the day, or on a fresh one where that is NULL. */
 static inline void expect_study_with(const char *text, const struct study *s, uint64_t *day) {
     struct lent files = lend(&s->files);
+    struct room room = lend_room(s->room);
     size_t parents_len = strlen(text);
-    uint8_t *parents = copy_of(text, parents_len), *answer = untouched(s->room);
-    uint64_t *report = untouched(sizeof s->report);
-    uint64_t count = day == NULL ? capping_study(LENT(files), parents, parents_len, answer, s->room, report)
-                                 : capping_day_study(day, LENT(files), parents, parents_len, answer, s->room, report);
-    size_t length = strlen(s->answer), changed = 0;
-    for (size_t i = length; i < s->room; i++)
-        changed += answer[i] != UNTOUCHED_BYTE;
-    require(s->name, "another count", count == length);
-    require(s->name, "another answer", length <= s->room && memcmp(answer, s->answer, length) == 0);
-    require(s->name, "a byte changed past the answer", changed == 0);
-    require(s->name, "another report", memcmp(report, s->report, sizeof s->report) == 0);
-    free(report);
-    free(answer);
+    uint8_t *parents = copy_of(text, parents_len);
+    uint64_t count = day == NULL ? capping_study(LENT(files), parents, parents_len, ROOM(room))
+                                 : capping_day_study(day, LENT(files), parents, parents_len, ROOM(room));
+    expect_written(s->name, room, count, s->answer, s->report);
     free(parents);
     take_back(files);
 }

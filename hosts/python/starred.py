@@ -18,6 +18,7 @@ STARRED_SCHEDULES = (
     + b"14,1,M,5,100,5000,0,0,1\r\n14,2,C,5,100,2000,0,0,1\r\n"
 )
 STARRED = (HOUR_5, STARRED_SUPPLY, STARRED_SCHEDULES)
+STARRED_BY_NAME = dict(zip(("constraint", "supply", "schedules"), STARRED))
 STARRED_ANSWER = ANSWER + b"11,1,F,0,2,C,1030000\r\n12,2,F,0,1,M,330000\r\n13,3,F,0,1,C,890000\r\n14,4,F,5000000,1,M,500000\r\n"
 
 # The same where any two of its suppliers are affiliated: unit 14's own group and two others are then all that supply.
@@ -26,6 +27,11 @@ AFFILIATED_ANSWER = STARRED_ANSWER.replace(b"14,4,F,5000000,", b"14,4,F,0,")
 # The starred study again, with its units running: no startup is paid, and only the hour itself.
 AGAIN_ANSWER = ANSWER + b"11,1,F,0,2,C,830000\r\n12,2,F,0,1,M,330000\r\n13,3,F,0,1,C,880000\r\n14,4,F,5000000,1,M,500000\r\n"
 STARRED_DAY = "5;11:C:2,12:M:1,13:C:1,14:M:1"
+
+
+def quoted(content):
+    """The same file with every field quoted, and without the last CR LF."""
+    return b"\r\n".join(b'"' + record.replace(b",", b'","') + b'"' for record in content.splitlines())
 
 
 def others(count):

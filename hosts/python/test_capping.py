@@ -5,8 +5,8 @@ import unittest.mock
 
 import capping
 from capping import engine
-from starred import AFFILIATED_ANSWER, HOUR_5, PARENTS, SCHEDULES, STARRED, STARRED_ANSWER, STARRED_SCHEDULES, STARRED_SUPPLY
-from starred import SUPPLY, Case
+from starred import AFFILIATED_ANSWER, CONSTRAINT, HOUR_5, PARENTS, SCHEDULES, STARRED, STARRED_ANSWER, STARRED_BY_NAME
+from starred import STARRED_SCHEDULES, STARRED_SUPPLY, SUPPLY, Case, quoted
 
 MOST_AMOUNT = 10**12
 
@@ -97,6 +97,61 @@ class Parents(Case):
             capping.study(*STARRED, capping.LONGEST_ANSWER, PARENTS)
 
 
+class Tidy(Case):
+    def told(self, refusal, file, data):
+        """Requires this number, file and place, whether or not the room is enough."""
+        for room in (None, 0):
+            self.refused(*refusal, capping.tidy, file, data, room)
+
+    def test_tidy_and_quoted(self):
+        for file, content in STARRED_BY_NAME.items():
+            self.assertEqual(capping.tidy(file, content), content)
+            self.assertEqual(capping.tidy(file, quoted(content)), content)
+            self.assertEqual(capping.tidy(file, memoryview(content)), content)
+
+    def test_rows_stay_in_their_order(self):
+        supply = SUPPLY + b"12,2,9,0,-1\r\n11,1,5,7,0\r\n12,2,9,0,-1\r\n11,1,4,7,0\r\n"
+        self.assertEqual(capping.tidy("supply", quoted(supply)), supply)
+        schedules = SCHEDULES + b"9,2,C,23,0,0,0,0,24\r\n7,1,M,0,1,2,3,4,1\r\n9,2,C,1,5,6,7,0,24\r\n"
+        self.assertEqual(capping.tidy("schedules", quoted(schedules)), schedules)
+
+    def test_room(self):
+        self.assertEqual(capping.tidy("supply", SUPPLY, room=28), SUPPLY)
+        words = self.refused(30, 0, 0, capping.tidy, "supply", SUPPLY, room=27)
+        self.assertEqual(words, "refusal 30: the buffer is shorter than the tidy file")
+        with self.assertRaises(ValueError):
+            capping.tidy("supply", SUPPLY, room=-1)
+
+    def test_longest(self):
+        supply = (b"%d,%d,100000,200000,-10000\r\n" % (9999 - row % 64, 999 - row % 32) for row in range(256))
+        hours = ((9999 - row // 14, 10 + row % 14) for row in range(1024))
+        schedules = (b"%d,99,C,%d,100000,200000,100000000,100000000,24\r\n" % row for row in hours)
+        for number, file, content in (
+            (1, "constraint", CONSTRAINT + b"23,1000000,10000\r\n"),
+            (2, "supply", SUPPLY + b"".join(supply)),
+            (3, "schedules", SCHEDULES + b"".join(schedules)),
+        ):
+            self.assertEqual(len(content), capping.LONGEST_TIDY[file])
+            self.assertEqual(len(content), engine.functions().capping_longest_tidy(number))
+            self.assertEqual(capping.tidy(file, content), content)
+            self.refused(30, 0, 0, capping.tidy, file, content, room=len(content) - 1)
+
+    def test_refused(self):
+        self.told((1, 2, 0), "supply", STARRED_SUPPLY + b"\t")
+        self.told((2, 1, 0), "constraint", b"")
+        self.told((2, 3, 8), "schedules", STARRED_SCHEDULES + b"\r\n")
+        self.told((4, 1, 0), "constraint", CONSTRAINT)
+        self.told((3, 2, 5), "supply", STARRED_SUPPLY + b"15,5,1,0,-0\r\n")
+        self.told((5, 2, 65), "supply", SUPPLY + b"".join(b"%d,1,1,0,0\r\n" % unit for unit in range(1, 67)))
+        self.told((6, 2, 5), "supply", STARRED_SUPPLY + b"11,1,1,0,-5000\r\n")
+        self.told((6, 3, 8), "schedules", STARRED_SCHEDULES + b"14,3,M,5,0,0,0,0,1\r\n")
+
+    def test_no_such_file(self):
+        for file in ("parents", "supply.csv", 2):
+            with self.assertRaisesRegex(ValueError, "none of the files that can be tidied: constraint, supply, schedules$"):
+                capping.tidy(file, SUPPLY)
+
+
 class Test(Case):
     def test_verdicts(self):
         self.assertEqual(capping.test([4, 3, 2, 1], 3, 2), (2, "P"))
@@ -120,7 +175,7 @@ class Test(Case):
 
 class Words(unittest.TestCase):
     def test_every_number(self):
-        for number in (*range(1, 12), *range(20, 25), 35, 36):
+        for number in (*range(1, 12), *range(20, 25), 30, 35, 36):
             self.assertIn(f"refusal {number}: ", str(capping.Refused(number)))
 
     def test_pickled(self):

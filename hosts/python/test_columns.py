@@ -6,11 +6,11 @@ import capping
 from capping import columns
 from capping.explain import explained
 from capping.records import NotCsv, records
+from capping.refusal import FILE_NUMBERS
 from starred import PARENTS, STARRED
 
 FIELD_REFUSED = 3
 SOUND = dict(zip(columns.FILES, (*STARRED, PARENTS + b"1,2\r\n")))
-NUMBERS = {name: number for number, name in capping.FILES.items()}
 FIELDS = (b"", b"0", b"1", b"-1", b"-0", b"-01", b"+1", b"01", b" 1", b"1.0", b"9" * 5000, b"M", b"C", b"m", b"MC", b"X")
 COLUMNS = [(file, at, column) for file, table in columns.FILES.items() for at, column in enumerate(table.columns)]
 
@@ -72,7 +72,7 @@ class Columns(unittest.TestCase):
             for field in (b"x", numeral(column.maximum + 1)):
                 files = with_field(file, at, field)
                 refused = refusal(files)
-                self.assertEqual((refused.number, refused.file, refused.place), (FIELD_REFUSED, NUMBERS[file], 1))
+                self.assertEqual((refused.number, refused.file, refused.place), (FIELD_REFUSED, FILE_NUMBERS[file], 1))
                 named = explained(refused, files, capping.Day())[2]
                 self.assertEqual(named, f"field {at + 1}, {column.name}: {field.decode()}")
 

@@ -6,7 +6,8 @@ import sys
 import tempfile
 import unittest
 
-from starred import AFFILIATED_ANSWER, AGAIN_ANSWER, PARENTS, STARRED, STARRED_ANSWER, STARRED_DAY, SUPPLY
+from starred import AFFILIATED_ANSWER, AGAIN_ANSWER, PARENTS, STARRED, STARRED_ANSWER, STARRED_BY_NAME, STARRED_DAY
+from starred import STARRED_SUPPLY, SUPPLY, quoted
 
 PACKAGES = pathlib.Path(__file__).resolve().parent
 NAMES = ("constraint.csv", "supply.csv", "schedules.csv")
@@ -193,11 +194,73 @@ class Release(Case):
         self.fails(2, f"{self.day} holds no day: ", "release", 11, "--day", self.day)
 
 
+class Tidy(Case):
+    def setUp(self):
+        super().setUp()
+        self.supply = self.folder / "supply.csv"
+        self.other = self.folder / "other.csv"
+
+    def test_by_name(self):
+        for file, content in STARRED_BY_NAME.items():
+            path = self.folder / f"{file}.csv"
+            path.write_bytes(quoted(content))
+            self.answers(content, "tidy", path)
+            self.assertEqual(path.read_bytes(), quoted(content))
+
+    def test_as(self):
+        for file, content in STARRED_BY_NAME.items():
+            self.other.write_bytes(quoted(content))
+            self.answers(content, "tidy", self.other, "--as", file)
+
+    def test_as_wins(self):
+        self.supply.write_bytes(STARRED_BY_NAME["schedules"])
+        self.answers(STARRED_BY_NAME["schedules"], "tidy", self.supply, "--as", "schedules")
+        self.fails(1, "refused with 2: ", "tidy", self.supply)
+
+    def test_any_other_name(self):
+        for name in ("other.csv", "parents.csv", "supply"):
+            path = self.folder / name
+            path.write_bytes(STARRED_SUPPLY)
+            words = f"{path} has none of the names constraint.csv, supply.csv, schedules.csv: say with --as which file it is\n"
+            self.fails(2, words, "tidy", path)
+
+    def test_refused(self):
+        words = (
+            "refused with 6: a row contradicts an earlier one\n"
+            "supply.csv, record 5: 11,1,1000,3000,-5000\n"
+            "at odds with record 1, which has another dfax of the same unit: 11,1,1000,3000,5000\n"
+            "docs/REFUSALS.md says how to mend it, under 6\n"
+        )
+        for path in (self.supply, self.other):
+            path.write_bytes(STARRED_SUPPLY + b"11,1,1000,3000,-5000\r\n")
+            self.fails(1, words, "tidy", path, "--as", "supply")
+        self.fails(1, words, "tidy", self.supply)
+
+    def test_length(self):
+        self.supply.write_bytes(b"x" * MOST_BYTES)
+        self.fails(1, "refused with 2: ", "tidy", self.supply)
+        self.supply.write_bytes(b"x" * (MOST_BYTES + 1))
+        self.fails(1, "refused: supply.csv is too long, a file may have 65536 bytes\n", "tidy", self.supply)
+
+    def test_file_that_cant_be_read(self):
+        self.supply.unlink()
+        self.fails(2, f"{self.supply}: No such file or directory\n", "tidy", self.supply)
+        self.fails(2, f"{self.folder}: Is a directory\n", "tidy", self.folder, "--as", "supply")
+
+    def test_tidy_file_that_cant_be_printed(self):
+        with open("/dev/full", "wb") as full:
+            self.fails(2, "standard output: ", "tidy", self.supply, stdout=full)
+
+
 class Usage(Case):
     def test_wrong(self):
         for arguments in (
             (),
+            ("tidied", self.folder),
+            ("tidy",),
             ("tidy", self.folder),
+            ("tidy", self.folder / "supply.csv", "--as", "parents"),
+            ("tidy", self.folder / "supply.csv", "--day", self.day),
             ("check",),
             ("check", self.folder, "--day", self.day),
             ("study", self.folder, "--da", self.day),
@@ -211,7 +274,7 @@ class Usage(Case):
         self.fails(2, f"{self.day} isn't a folder\n", "check", self.day)
 
     def test_help(self):
-        for arguments in ((), ("check",), ("study",), ("release",)):
+        for arguments in ((), ("check",), ("study",), ("release",), ("tidy",)):
             ran = self.run_command(*arguments, "--help")
             self.assertEqual((ran.returncode, ran.stderr), (0, b""))
             for words in (b"exit status:", b"  0  there", b"  1  refused", b"  2  wrong usage", b"docs/REFUSALS.md"):
@@ -222,6 +285,11 @@ class Usage(Case):
             printed = self.run_command(*arguments, "--help").stdout
             self.assertIn(b"A study reads parents.csv too where FOLDER has it", printed)
             self.assertIn(b"A check takes the three files alone.", printed)
+
+    def test_help_says_which_file_is_tidied(self):
+        for arguments in ((), ("tidy",)):
+            printed = self.run_command(*arguments, "--help").stdout
+            self.assertIn(b"that its name or --as\nsays it is", printed)
 
     def test_without_the_engine(self):
         packages = self.folder / "hosts" / "python"

@@ -3,3 +3,4 @@ pub mod DayCellLaws
 pub mod DayInLaws
 pub mod ExportLaws
 pub mod LayingLaws
+pub mod TidyLaws

@@ -1,30 +1,38 @@
--- What the study, the release and the test promise host programs, who know an answer by its numbers: document 01's number, file
--- and place, or zeros, and 0 for P and 1 for F. Assumes nothing.
+-- What the study, the release, the test and tidying promise host programs, who know an answer by its numbers: document 01's number,
+-- file and place, or zeros, and 0 for P and 1 for F. Assumes nothing.
 use Prim.Native.Nat.{ℕ, _<_}
 use mathlib.Core.Path.{_≡_}
 use mathlib.Core.Logic.{_↔_}
 use mathlib.Core.Bool.{cond}
 use mathlib.Core.List.{List, [], _∷_}
+use mathlib.Core.Option.{Option, none, some}
 use lib.Dec.{eqb}
 use lib.ListN.{take}
-use Rattle.tables.specs.Refusals.{told}
+use Rattle.tables.specs.Refusals.{bareRefusal, told}
+use Rattle.tables.specs.declared.files.File.{File}
+use Rattle.tables.specs.declared.files.File.the-variants.{Constraint, Supply, Schedules}
 use Rattle.tables.specs.declared.files.Refusal.{Refusal}
 use Rattle.pivotal.specs.Test.{F, verdictLetter, TestOutcome}
 use Rattle.checking.specs.Files.{Files}
 use Rattle.outcome.specs.Day.{DayView, releaseRefusal, released}
 use Rattle.outcome.specs.Right.{Right}
 use Rattle.outcome.specs.Study.{Outcome}
+use Rattle.tidy.specs.Longest.{longestTidy}
+use Rattle.tidy.specs.Tidy.{Tidying, tidying, tidied}
 use Rattle.capping.specs.Days.{dayIn, dayCells}
 
 -- the cells of a report
 abbrev pub reported : Refusal → List ℕ
 reported r = r .number ∷ r .file ∷ r .place ∷ []
 
--- a study: the result, every byte of the buffer and every cell of the report are what the definition gives
-pub record StudyTold (o : Outcome) (new report : List ℕ) (r : ℕ) : Type 0 where
-  pub count : r ≡ o .count
-  pub bytes : new ≡ o .buffer
-  pub reports : report ≡ reported (o .told)
+-- a call that writes: the result, every byte of the buffer and every cell of the report are what the definition gives
+pub record WritingTold (told : Refusal) (written : ℕ) (buffer new report : List ℕ) (r : ℕ) : Type 0 where
+  pub count : r ≡ written
+  pub bytes : new ≡ buffer
+  pub reports : report ≡ reported told
+
+abbrev pub StudyTold : Outcome → List ℕ → List ℕ → ℕ → Type 0
+StudyTold o new report r = WritingTold (o .told) (o .count) (o .buffer) new report r
 
 -- demand 3, where bytes were written: those are right, and no others are
 abbrev pub ToldRight : DayView → Files → List ℕ → ℕ → Type 0
@@ -57,3 +65,21 @@ testNumber o = cond (eqb (o .told .number) 0) (cond (eqb (o .verdict) (verdictLe
 -- what is left, or what stood there where the test is refused
 unfoldable pub testLeft : TestOutcome → ℕ → ℕ
 testLeft o old = cond (eqb (o .told .number) 0) (o .left) old
+
+-- a file is named by its number
+unfoldable pub fileNumbered : ℕ → Option File
+fileNumbered n =
+    cond (eqb n 1) (some Constraint) (cond (eqb n 2) (some Supply) (cond (eqb n 3) (some Schedules) none))
+
+-- where there is no such file, no header is its header: 2, with no file to name
+abbrev pub tidiedAs : Option File → List ℕ → List ℕ → Tidying
+tidiedAs none s buffer = tidying [] buffer (some (bareRefusal 2))
+tidiedAs (some f) s buffer = tidied f s buffer
+
+-- how long a buffer for a tidy file has to be, 0 where there is no such file
+abbrev pub longestAs : Option File → ℕ
+longestAs none = 0
+longestAs (some f) = longestTidy f
+
+abbrev pub TidyTold : Tidying → List ℕ → List ℕ → ℕ → Type 0
+TidyTold o new report r = WritingTold (o .told) (o .count) (o .buffer) new report r

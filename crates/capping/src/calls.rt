@@ -5,6 +5,7 @@ ghost use Rattle.engine.specs.Releasing.{releaseTold};
 ghost use Rattle.engine.specs.Studying.{studyTold, studyCount};
 ghost use Rattle.engine.specs.View.{viewOf};
 ghost use Rattle.tables.specs.Refusals.{bareRefusal};
+ghost use Rattle.tidy.specs.promises.Tidies.{tidyTold, tidyCount};
 ghost use Rattle.capping.specs.Exports.{reported, cellsAfter};
 use crate::days::CELLS;
 use crate::days::lay_down;
@@ -12,6 +13,7 @@ use engine::Day;
 use engine::Release;
 use engine::Study;
 use tables::Refusal;
+use tidy::Tidy;
 
 // Number, file and place of what a study answered.
 pub(crate) fn told_by_study(study: Study) -> Refusal
@@ -33,6 +35,16 @@ pub(crate) fn told_by_release(release: Release) -> Refusal
     }
 }
 
+// Number, file and place of what tidying answered.
+pub(crate) fn told_by_tidy(tidy: Tidy) -> Refusal
+    ensures { λ r. ⌜ r ≡ tidyTold tidy ⌝ }
+{
+    match tidy {
+        Tidy::Written(_) => nothing(),
+        Tidy::Refused(refusal) => refusal,
+    }
+}
+
 // Three zeros, where nothing is refused.
 fn nothing() -> Refusal
     ensures { λ r. ⌜ r ≡ bareRefusal 0 ⌝ }
@@ -51,6 +63,16 @@ pub(crate) fn count_of(study: Study) -> u64
     match study {
         Study::Written(count) => count as u64,
         Study::Refused(_) => 0,
+    }
+}
+
+// How many bytes tidying wrote, none where it is refused.
+pub(crate) fn tidy_count(tidy: Tidy) -> u64
+    ensures { λ r. ⌜ r ≡ tidyCount tidy ⌝ }
+{
+    match tidy {
+        Tidy::Written(count) => count as u64,
+        Tidy::Refused(_) => 0,
     }
 }
 

@@ -1,10 +1,11 @@
 // What host programs in C, Rust and Python link: the check of three files, the study of a fresh day, a
-// day that is studied and released from call after call, and the test of one supplier.
+// day that is studied and released from call after call, the test of one supplier, and one file tidied.
 mod calls;
 mod check;
 mod day_calls;
 mod days;
 mod exports;
+mod tidying;
 
 pub use check::capping_check;
 pub use day_calls::capping_day_fresh;
@@ -12,3 +13,5 @@ pub use day_calls::capping_day_release;
 pub use day_calls::capping_day_study;
 pub use exports::capping_study;
 pub use exports::capping_test;
+pub use tidying::capping_longest_tidy;
+pub use tidying::capping_tidy;

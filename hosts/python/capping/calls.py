@@ -1,9 +1,9 @@
-"""The calls that need no day: the check, the study of a fresh day, and the test of one supplier."""
+"""The calls that need no day: the check, the study of a fresh day, the tidying of a file, and the test of one supplier."""
 import ctypes
 import functools
 
-from .engine import LONGEST_ANSWER, MOST_64_BIT, answer_of, functions, lent
-from .refusal import Refused
+from .engine import LONGEST_ANSWER, LONGEST_TIDY, MOST_64_BIT, functions, lent, written_by
+from .refusal import FILE_NUMBERS, Refused
 
 TEST_REFUSED = 11
 VERDICTS = {0: "P", 1: "F"}
@@ -19,7 +19,17 @@ def study(constraint, supply, schedules, room=LONGEST_ANSWER, *, parents=b""):
     """Studies the files, each as bytes, on a fresh day, and answers the answer file. `room` is how long a buffer is lent to it;
     the longest answer always fits. Without `parents` no suppliers are affiliated."""
     files = lent(constraint, supply, schedules, parents)
-    return answer_of(functools.partial(functions().capping_study, *files), room)
+    return written_by(functools.partial(functions().capping_study, *files), room)
+
+
+def tidy(file, data, room=None):
+    """Reads one file alone, "constraint", "supply" or "schedules" with its bytes, and hands it back tidy, as the engine
+    understood it: unquoted, CR LF after each record, the header, then the rows in their order. `room` is how long a buffer is
+    lent to it; without it, one that the longest tidy file fits."""
+    if file not in LONGEST_TIDY:
+        raise ValueError(f"{file!r} is none of the files that can be tidied: {', '.join(LONGEST_TIDY)}")
+    call = functools.partial(functions().capping_tidy, FILE_NUMBERS[file], *lent(data))
+    return written_by(call, LONGEST_TIDY[file] if room is None else room)
 
 
 def test(amounts, place, need):

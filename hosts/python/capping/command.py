@@ -1,12 +1,13 @@
-"""The command for people: checks and studies the files of a folder, and keeps a day in a file."""
+"""The command for people: checks and studies the files of a folder, keeps a day in a file, and hands a file back tidy."""
 import contextlib
 import os
 import sys
 
 from . import columns, usage
+from .calls import tidy
 from .day import Day
 from .explain import explained
-from .files import TooLong, Unreadable, naming, read_day, read_folder, replacing
+from .files import TooLong, Unreadable, naming, read_day, read_file, read_folder, replacing
 from .refusal import Refused
 
 ANSWERED, REFUSED, UNUSABLE = 0, 1, 2
@@ -56,7 +57,14 @@ def _release(asked):
         pass
 
 
-COMMANDS = {"check": _check, "study": _study, "release": _release}
+def _tidy(asked):
+    content = read_file(asked.path)
+    with _telling({asked.file: content}, Day.fresh()):
+        tidied = tidy(asked.file, content)
+    _print(tidied)
+
+
+COMMANDS = {"check": _check, "study": _study, "release": _release, "tidy": _tidy}
 
 
 def _day_so_far(path):

@@ -3,7 +3,7 @@ import functools
 import operator
 
 from . import words
-from .engine import DAY_CELLS, LONGEST_ANSWER, MOST_64_BIT, DayCells, Report, answer_of, functions, lent, refuse
+from .engine import DAY_CELLS, LONGEST_ANSWER, MOST_64_BIT, DayCells, Report, functions, lent, refuse, written_by
 from .view import lay_down, seen
 
 # No unit has this number, so none is running under it.
@@ -66,7 +66,7 @@ class Day:
         it; the longest answer always fits. Without `parents` no suppliers are affiliated."""
         files = lent(constraint, supply, schedules, parents)
         cells = self._copied()
-        answer = answer_of(functools.partial(functions().capping_day_study, cells, *files), room)
+        answer = written_by(functools.partial(functions().capping_day_study, cells, *files), room)
         self._cells = cells
         return answer
 

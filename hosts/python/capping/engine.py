@@ -14,6 +14,9 @@ SHARED_OBJECT = pathlib.Path(__file__).resolve().parents[3] / "target" / "hosts-
 LONGEST_ANSWER = 2799
 """How many bytes the longest answer file has."""
 
+LONGEST_TIDY = {"constraint": 38, "supply": 7964, "schedules": 52284}
+"""How many bytes the longest tidy file has, of each that can be handed back."""
+
 DAY_CELLS = 195
 """How many 64-bit cells a day has."""
 
@@ -36,11 +39,14 @@ def _typed(library):
     number, length = ctypes.c_uint64, ctypes.c_size_t
     file = [ctypes.c_char_p, length]
     check = file * 3
-    study = [*check, *file, ctypes.c_char_p, length, Report]
+    written = [ctypes.c_char_p, length, Report]
+    study = [*check, *file, *written]
     amounts = [ctypes.POINTER(number), length]
     for name, takes, answers in (
         ("capping_check", check, number),
         ("capping_study", study, number),
+        ("capping_tidy", [number, *file, *written], number),
+        ("capping_longest_tidy", [number], number),
         ("capping_test", [*amounts, number, number, ctypes.POINTER(number)], number),
         ("capping_day_fresh", [DayCells], None),
         ("capping_day_study", [DayCells, *study], number),
@@ -57,15 +63,15 @@ def lent(*files):
     return [part for file in held for part in (file, len(file))]
 
 
-def answer_of(study, room):
-    """What a study writes into a buffer of so many bytes; `study` is its call but for the buffer and the report."""
+def written_by(call, room):
+    """What a call writes into a buffer of so many bytes; `call` lacks only the buffer and the report."""
     if room < 0:
         raise ValueError("a buffer has no negative length")
-    answer = ctypes.create_string_buffer(max(room, 1))
+    buffer = ctypes.create_string_buffer(max(room, 1))
     report = Report()
-    count = study(answer, room, report)
+    count = call(buffer, room, report)
     refuse(report)
-    return answer.raw[:count]
+    return buffer.raw[:count]
 
 
 def refuse(report):

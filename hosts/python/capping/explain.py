@@ -16,8 +16,8 @@ OF_THE_DAY = range(20, 25)
 
 
 def explained(refused, files, day):
-    """The lines that say why a study of the files on a day, or a release from it, was refused. The files' bytes are given by
-    what a study calls them."""
+    """The lines that say why a study of the files on a day, a release from it, or the tidying of a file was refused. The bytes
+    of the files are given by what a study calls them."""
     lines = [f"refused with {refused.number}: {refused.meaning}"]
     if refused.file != 0:
         lines += DETAILS[refused.number](_spot(files, refusal.FILES[refused.file], refused.place))

@@ -1,4 +1,4 @@
-"""What the command reads and writes: the files of a folder, and a day in a file of its own."""
+"""What the command reads and writes: the files of a folder or one of them, and a day in a file of its own."""
 import contextlib
 import os
 import secrets
@@ -37,9 +37,14 @@ def read_folder(folder, files):
 
 def _read_or_empty(path):
     try:
-        content = _read(path)
+        return read_file(path)
     except FileNotFoundError:
         return b""
+
+
+def read_file(path):
+    """The bytes of a file of a study."""
+    content = _read(path)
     if len(content) > MOST_BYTES:
         raise TooLong(f"refused: {path.name} is too long, a file may have {MOST_BYTES} bytes")
     return content

@@ -1,6 +1,7 @@
 """Refusals, and what their numbers say in plain words."""
 
 FILES = {1: "constraint", 2: "supply", 3: "schedules", 5: "parents"}
+FILE_NUMBERS = {name: number for number, name in FILES.items()}
 PLACE_IS_A_UNIT = (8, 9, 21)
 PLACE_IS_THE_FILE = (1, 4)
 MEANINGS = {
@@ -20,6 +21,7 @@ MEANINGS = {
     22: "more than 64 units would run",
     23: "the unit to release isn't running",
     24: "the day is ill-formed",
+    30: "the buffer is shorter than the tidy file",
     35: "a supplier is given two parents",
     36: "a chain of parents returns to its start",
 }

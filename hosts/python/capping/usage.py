@@ -2,6 +2,8 @@
 import argparse
 import pathlib
 
+from . import columns
+from .engine import LONGEST_TIDY
 from .words import NUMERAL
 
 FOLDER = """
@@ -12,9 +14,16 @@ PARENTS = """
 A study reads parents.csv too where FOLDER has it, with the same limit: the
 suppliers that are affiliated. A check takes the three files alone.
 """
+TIDY = """
+A tidy file is as the engine understood it: no quotes, CR LF after each record,
+the header, then the rows in their order. So diff shows where the engine reads
+otherwise than a script wrote. The FILE to tidy has at most 64 KiB and is read
+alone, as the constraint.csv, supply.csv or schedules.csv that its name or --as
+says it is; a refusal calls it so.
+"""
 DAY = """
-FILE holds a day on one line: the hour of its last study (n for none), a
-semicolon, and the running units with kind and schedule, as in
+The FILE of --day holds a day on one line: the hour of its last study (n for
+none), a semicolon, and the running units with kind and schedule, as in
 5;11:C:2,12:M:1. A fresh day is the line -. FILE is written whole or not at
 all, and a refusal leaves it as it was. Use it from one command at a time.
 """
@@ -27,19 +36,25 @@ exit status:
   1  refused
   2  wrong usage, or a file or a day that can't be read or written
 """
-DESCRIPTION = "Runs the offer capping engine on the files of a folder."
+DESCRIPTION = "Runs the offer capping engine on the files of a folder, or on one of them."
+BY_NAME = {columns.FILES[file].name: file for file in LONGEST_TIDY}
 LAYOUT = {"formatter_class": argparse.RawDescriptionHelpFormatter, "allow_abbrev": False}
 
 
 def read(arguments):
-    """What is asked: the name of a command with its folder, day and unit. Wrong usage and --help end the program."""
-    epilog = FOLDER + PARENTS + DAY + REFUSALS
+    """What is asked: the name of a command with its folder, day and unit, or with a path and which file it is. Wrong usage and
+    --help end the program."""
+    epilog = FOLDER + PARENTS + DAY + TIDY + REFUSALS
     parser = argparse.ArgumentParser(prog="python3 -m capping", description=DESCRIPTION, epilog=epilog, **LAYOUT)
     commands = parser.add_subparsers(dest="command", metavar="COMMAND", required=True)
     _check(commands)
     _study(commands)
     _release(commands)
-    return parser.parse_args(arguments)
+    tidy = _tidy(commands)
+    asked = parser.parse_args(arguments)
+    if asked.command == "tidy" and asked.file is None:
+        asked.file = _file_by_name(asked.path, tidy)
+    return asked
 
 
 def _check(commands):
@@ -61,6 +76,20 @@ def _release(commands):
     command = commands.add_parser("release", help=does, description=does, epilog=DAY + REFUSALS, **LAYOUT)
     command.add_argument("unit", metavar="UNIT", type=_unit, help="the unit's number")
     _takes_day(command, "the day that it runs in; FILE must be there", required=True)
+
+
+def _tidy(commands):
+    does = "print a constraint, supply or schedules file tidy"
+    command = commands.add_parser("tidy", help=does, description=does, epilog=TIDY + REFUSALS, **LAYOUT)
+    command.add_argument("path", metavar="FILE", type=pathlib.Path, help="the file to read")
+    command.add_argument("--as", dest="file", choices=LONGEST_TIDY, help="which file it is, whatever its name")
+    return command
+
+
+def _file_by_name(path, command):
+    if path.name not in BY_NAME:
+        command.error(f"{path} has none of the names {', '.join(BY_NAME)}: say with --as which file it is")
+    return BY_NAME[path.name]
 
 
 def _takes_folder(command):

@@ -4,7 +4,7 @@ use std::fmt::{self, Debug, Formatter};
 
 use crate::engine::{self, Cells};
 use crate::running::{Running, PLACE_CELLS};
-use crate::{answer_of, Files, Refusal};
+use crate::{written_in, Files, Refusal, LONGEST_ANSWER};
 
 /// How many cells a day has.
 pub const DAY_CELLS: usize = 195;
@@ -58,7 +58,7 @@ impl Day {
     /// Studies the files, and answers the answer file. The day's hour is then the study's, and each of its units runs on the
     /// schedule chosen.
     pub fn study(&mut self, files: Files) -> Result<Vec<u8>, Refusal> {
-        answer_of(|answer| self.study_into(files, answer))
+        written_in(LONGEST_ANSWER, |answer| self.study_into(files, answer))
     }
 
     /// The same, with the answer file written from the start of the buffer: answers its length. Bytes past the answer stay, and a

@@ -1,5 +1,5 @@
 //! The engine's own functions, each behind a call that no safe program can misuse.
-use crate::{Files, Refusal, DAY_CELLS};
+use crate::{File, Files, Refusal, DAY_CELLS};
 
 /// The cells of a day.
 pub type Cells = [u64; DAY_CELLS];
@@ -28,6 +28,15 @@ extern "C" {
         parents_len: usize,
         answer: *mut u8,
         answer_len: usize,
+        report: *mut Report,
+    ) -> u64;
+
+    fn capping_tidy(
+        file: u64,
+        bytes: *const u8,
+        bytes_len: usize,
+        tidy: *mut u8,
+        tidy_len: usize,
         report: *mut Report,
     ) -> u64;
 
@@ -95,6 +104,21 @@ pub fn study(files: Files, answer: &mut [u8]) -> Result<usize, Refusal> {
     written(count, report)
 }
 
+pub fn tidy(file: File, bytes: &[u8], tidy: &mut [u8]) -> Result<usize, Refusal> {
+    let mut report = [0; 3];
+    let count = unsafe {
+        capping_tidy(
+            file.number(),
+            bytes.as_ptr(),
+            bytes.len(),
+            tidy.as_mut_ptr(),
+            tidy.len(),
+            &mut report,
+        )
+    };
+    written(count, report)
+}
+
 pub fn test(amounts: &[u64], place: u64, need: u64, left: &mut u64) -> u64 {
     unsafe { capping_test(amounts.as_ptr(), amounts.len(), place, need, left) }
 }
@@ -134,7 +158,7 @@ pub fn day_release(day: &mut Cells, unit: u64) -> Result<(), Refusal> {
     }
 }
 
-/// How many bytes a study wrote, by its report.
+/// How many bytes a call wrote, by its report.
 fn written(count: u64, report: Report) -> Result<usize, Refusal> {
     match report {
         [0, _, _] => {

@@ -1,5 +1,5 @@
-//! The files of a study. What a study may be given beside its first three is none until it is named, so that a caller who has no
-//! such file writes nothing of it.
+//! The files of a study, together and each by itself. What a study may be given beside its first three is none until it is named,
+//! so that a caller who has no such file writes nothing of it.
 
 /// The files of a study, each as its bytes.
 ///
@@ -32,5 +32,33 @@ impl<'a> Files<'a> {
     /// The same with a parents file, which names affiliated suppliers; one of no bytes is none.
     pub fn with_parents(self, parents: &'a [u8]) -> Files<'a> {
         Files { parents, ..self }
+    }
+}
+
+/// A file that can be handed back tidy.
+#[derive(Clone, Copy, Debug, PartialEq, Eq)]
+pub enum File {
+    Constraint,
+    Supply,
+    Schedules,
+}
+
+impl File {
+    /// How many bytes the longest tidy file of the kind has.
+    pub const fn longest_tidy(self) -> usize {
+        match self {
+            File::Constraint => 38,
+            File::Supply => 7964,
+            File::Schedules => 52284,
+        }
+    }
+
+    /// Its number in calls and refusals.
+    pub(crate) fn number(self) -> u64 {
+        match self {
+            File::Constraint => 1,
+            File::Supply => 2,
+            File::Schedules => 3,
+        }
     }
 }

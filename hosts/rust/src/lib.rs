@@ -1,6 +1,6 @@
 //! The offer capping engine as Rust programs call it: check three files, study files on a fresh day or on one that goes on, release
-//! a unit, test one supplier. The engine keeps nothing, and a day is its caller's own, so threads may call at the same time. A call
-//! takes up to 128 KiB of stack.
+//! a unit, hand a file back tidy, test one supplier. The engine keeps nothing, and a day is its caller's own, so threads may call at
+//! the same time. A call takes up to 128 KiB of stack.
 //!
 //! ```
 //! use capping::Files;
@@ -39,7 +39,7 @@ mod running;
 mod words;
 
 pub use day::{Day, DAY_CELLS};
-pub use files::Files;
+pub use files::{File, Files};
 pub use refusal::Refusal;
 pub use running::{Kind, Running};
 pub use words::ParseDayError;
@@ -65,13 +65,33 @@ pub fn check(constraint: &[u8], supply: &[u8], schedules: &[u8]) -> Result<(), u
 
 /// Studies the files on a fresh day, and answers the answer file.
 pub fn study(files: Files) -> Result<Vec<u8>, Refusal> {
-    answer_of(|answer| study_into(files, answer))
+    written_in(LONGEST_ANSWER, |answer| study_into(files, answer))
 }
 
 /// Studies the files on a fresh day, writes the answer file from the start of the buffer, and answers its length. Bytes past the
 /// answer stay, and a refused study changes none.
 pub fn study_into(files: Files, answer: &mut [u8]) -> Result<usize, Refusal> {
     engine::study(files, answer)
+}
+
+/// Reads one file alone, and hands it back tidy, as the engine understood it: unquoted, CR LF after each record, the header, then
+/// the rows in their order.
+///
+/// ```
+/// use capping::File;
+///
+/// let quoted = b"hour,relief,cutoff\r\n\"5\",\"1000\",\"300\"";
+/// assert_eq!(capping::tidy(File::Constraint, quoted)?, b"hour,relief,cutoff\r\n5,1000,300\r\n");
+/// # Ok::<(), capping::Refusal>(())
+/// ```
+pub fn tidy(file: File, bytes: &[u8]) -> Result<Vec<u8>, Refusal> {
+    written_in(file.longest_tidy(), |tidy| tidy_into(file, bytes, tidy))
+}
+
+/// The same, with the tidy file written from the start of the buffer: answers its length. Bytes past the tidy file stay, and a
+/// refused file changes none.
+pub fn tidy_into(file: File, bytes: &[u8], tidy: &mut [u8]) -> Result<usize, Refusal> {
+    engine::tidy(file, bytes, tidy)
 }
 
 /// Tests the supplier at `place`, counted from 0: what is left without it and its two largest others, and the verdict.
@@ -88,10 +108,13 @@ pub fn test(amounts: &[u64], place: usize, need: u64) -> Result<(u64, Verdict), 
     }
 }
 
-/// The answer file that a study writes into a buffer long enough.
-fn answer_of(study: impl FnOnce(&mut [u8]) -> Result<usize, Refusal>) -> Result<Vec<u8>, Refusal> {
-    let mut answer = vec![0; LONGEST_ANSWER];
-    let count = study(&mut answer)?;
-    answer.truncate(count);
-    Ok(answer)
+/// What a call writes into a buffer of a length.
+fn written_in(
+    length: usize,
+    call: impl FnOnce(&mut [u8]) -> Result<usize, Refusal>,
+) -> Result<Vec<u8>, Refusal> {
+    let mut buffer = vec![0; length];
+    let count = call(&mut buffer)?;
+    buffer.truncate(count);
+    Ok(buffer)
 }

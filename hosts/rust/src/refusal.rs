@@ -31,6 +31,7 @@ impl Refusal {
             22 => "more than 64 units would run",
             23 => "the unit to release isn't running",
             24 => "the day is ill-formed",
+            30 => "the buffer is shorter than the tidy file",
             35 => "a supplier is given two parents",
             36 => "a chain of parents returns to its start",
             _ => "there is no such refusal",

@@ -4,9 +4,10 @@
 use std::process::ExitCode;
 
 use capping_bench::engine::{Engine, Files};
-use peer::{Day, Outcome, Rules, WholeDay};
+use peer::{Day, Outcome, Rules, TidyFile, WholeDay};
 
-/// The request of document 02 that brings parents.
+/// The requests of document 02 that bring tidy files and parents.
+const TIDY_FILES: u8 = 1;
 const AFFILIATED_OWNERS: u8 = 6;
 
 const PEER: Engine = Engine {
@@ -16,6 +17,10 @@ const PEER: Engine = Engine {
         _ => study_affiliated(files, buffer),
     },
     check: |[constraint, supply, schedules]| u64::from(peer::check(constraint, supply, schedules)),
+    tidy: Some(|schedules, buffer| {
+        let engine = peer::Engine::new(Rules::landed(&[TIDY_FILES]));
+        engine.tidy(TidyFile::Schedules, schedules, buffer).unwrap_or(0)
+    }),
     rounds_a_call: 1,
 };
 

@@ -1,11 +1,15 @@
-//! What is timed: an implementation's study and check.
+//! What is timed: an implementation's study and check, and its tidying of a schedules file.
 
+use capping::File;
 use capping_model::answer::LONGEST;
 use capping_model::check::check;
 use capping_model::day::Day;
 pub use capping_model::rules::Files;
 
 use crate::study::Study;
+
+/// How many bytes the longest tidy schedules file has.
+pub const LONGEST_TIDY: usize = File::Schedules.longest_tidy();
 
 /// An implementation.
 pub struct Engine {
@@ -14,6 +18,8 @@ pub struct Engine {
     pub study: fn(&Files, &mut [u8]) -> usize,
     /// 0, or the number of the first refusal.
     pub check: fn([&[u8]; 3]) -> u64,
+    /// Hands a schedules file back tidy: the tidy file's length in the buffer, or 0 where it refuses the file.
+    pub tidy: Option<fn(&[u8], &mut [u8]) -> usize>,
     /// How many rounds have one call; a slow engine is spared some.
     pub rounds_a_call: usize,
 }
@@ -23,20 +29,30 @@ pub struct Engine {
 pub enum Call {
     Study,
     Check,
+    Tidy,
 }
 
 impl Call {
-    pub const ALL: [Call; 2] = [Call::Study, Call::Check];
+    pub const ALL: [Call; 3] = [Call::Study, Call::Check, Call::Tidy];
 
-    /// Whether the call takes all files of a study: a check takes no parents.
+    /// Whether the call is timed on a study: one that takes no parents isn't where there are some.
     pub fn takes(self, study: &Study) -> bool {
         matches!(self, Call::Study) || study.parents.is_empty()
+    }
+
+    /// How many bytes of a study the call reads.
+    pub fn bytes(self, study: &Study) -> usize {
+        match self {
+            Call::Study | Call::Check => study.bytes(),
+            Call::Tidy => study.lend().schedules.len(),
+        }
     }
 
     pub fn name(self) -> &'static str {
         match self {
             Call::Study => "study",
             Call::Check => "check",
+            Call::Tidy => "tidy",
         }
     }
 }
@@ -53,18 +69,26 @@ impl Engine {
             Ok(()) => 0,
             Err(number) => number,
         },
+        tidy: Some(|schedules, buffer| capping::tidy_into(File::Schedules, schedules, buffer).unwrap_or(0)),
         rounds_a_call: 1,
     };
 
-    /// The model, which every answer is compared with.
+    /// The model, which every answer is compared with. Tidy files are compared with what they were made of.
     pub const MODEL: Engine = Engine {
         name: "model",
         study: |files, buffer| Day::fresh().study(files, buffer).1.unwrap_or(0),
         check,
+        tidy: None,
         rounds_a_call: 10,
     };
 
-    /// That the engine accepts a study and answers it byte for byte as the model does.
+    /// Whether the engine has a call.
+    pub fn has(&self, call: Call) -> bool {
+        !matches!(call, Call::Tidy) || self.tidy.is_some()
+    }
+
+    /// That the engine accepts a study and answers it byte for byte as the model does, and that the tidy schedules are the
+    /// rows they were made of.
     pub fn compare(&self, study: &Study) -> Result<(), String> {
         let files = study.lend();
         let differs = |what: &str| Err(format!("{} {what} the study {study}", self.name));
@@ -72,6 +96,7 @@ impl Engine {
         match (self.check)(study.files.lend()) {
             0 if answer.is_empty() => differs("refuses"),
             0 if answer != Engine::MODEL.answer(&files) => differs("has another answer than the model to"),
+            0 if !self.tidies(study) => differs("doesn't tidy the schedules of"),
             0 => Ok(()),
             number => differs(&format!("checks with {number}")),
         }
@@ -83,6 +108,15 @@ impl Engine {
         let length = (self.study)(files, &mut buffer);
         buffer.truncate(length);
         buffer
+    }
+
+    /// Whether the engine hands the schedules of a study back as they are tidy, or is never asked to.
+    fn tidies(&self, study: &Study) -> bool {
+        let mut buffer = vec![0; LONGEST_TIDY];
+        self.tidy.is_none_or(|tidy| {
+            let length = tidy(study.lend().schedules, &mut buffer);
+            buffer[..length] == study.tidy_schedules
+        })
     }
 }
 
@@ -98,7 +132,9 @@ mod tests {
     #[test]
     fn the_engine_answers_as_the_model() {
         assert_eq!(Engine::OURS.compare(&study()), Ok(()));
+        assert_eq!(Engine::OURS.compare(&Study::make(16, Layout::Quoted)), Ok(()));
         assert_eq!(Engine::OURS.compare(&Study::make(256, Layout::Affiliated)), Ok(()));
+        assert_eq!(Engine::OURS.compare(&Study::make(256, Layout::Longest)), Ok(()));
     }
 
     #[test]
@@ -123,6 +159,19 @@ mod tests {
             length
         };
         assert!(Engine { study: one_byte_off, ..Engine::MODEL }.compare(&study()).is_err());
+    }
+
+    #[test]
+    fn an_engine_that_copies_files_is_not_timed() {
+        let copy = |schedules: &[u8], buffer: &mut [u8]| {
+            buffer[..schedules.len()].copy_from_slice(schedules);
+            schedules.len()
+        };
+        let copying = Engine { tidy: Some(copy), ..Engine::MODEL };
+        assert_eq!(copying.compare(&study()), Ok(()));
+        assert!(copying.compare(&Study::make(16, Layout::Quoted)).is_err());
+        let refusing = Engine { tidy: Some(|_, _| 0), ..Engine::MODEL };
+        assert!(refusing.compare(&study()).is_err());
     }
 
     #[test]

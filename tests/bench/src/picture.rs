@@ -67,7 +67,7 @@ pub fn draw(engines: &[Engine], measured: &[Measured]) -> String {
 fn lines(engines: &[Engine], measured: &[&Measured]) -> Vec<Line> {
     let mut lines = Vec::new();
     for (index, engine) in engines.iter().enumerate() {
-        for call in Call::ALL {
+        for call in Call::ALL.into_iter().filter(|&call| engine.has(call)) {
             let time = |one: &Measured| one.times(index, call).median() / MICROSECOND;
             let points = measured.iter().map(|one| (one.study.rows() as f64, time(one))).collect();
             let name = format!("{} {}", engine.name, call.name());
@@ -148,12 +148,13 @@ impl Plot {
         self.text(LEGEND + SAMPLE + 12.0, y + 5.0, "start", &line.name);
     }
 
-    /// Dots and a line through them: filled and unbroken for the study, hollow and broken for the check.
+    /// Dots and a line through them: filled and unbroken for the study, hollow and broken for the others.
     fn trace(&mut self, places: &[(f64, f64)], line: &Line) {
         let colour = line.colour;
         let (dashes, fill) = match line.call {
             Call::Study => ("none", colour),
             Call::Check => ("6 4", "white"),
+            Call::Tidy => ("2 3", "white"),
         };
         let path: Vec<String> = places.iter().map(|(x, y)| format!("{x:.1},{y:.1}")).collect();
         let _ = writeln!(

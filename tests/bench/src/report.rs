@@ -19,40 +19,43 @@ pub fn of(engines: &[Engine], measured: &[Measured]) -> String {
 
 /// The times of a call on all studies that it takes.
 fn times(call: Call, engines: &[Engine], measured: &[Measured]) -> String {
-    let calls = |(index, engine): (usize, &Engine)| {
+    let engines: Vec<(usize, &Engine)> =
+        engines.iter().enumerate().filter(|(_, one)| one.has(call)).collect();
+    let calls = |&(index, engine): &(usize, &Engine)| {
         format!("{} of {}", measured[0].times(index, call).calls(), engine.name)
     };
-    let calls: Vec<String> = engines.iter().enumerate().map(calls).collect();
+    let calls: Vec<String> = engines.iter().map(calls).collect();
     let (name, calls) = (call.name(), calls.join(", "));
     let mut table = format!("{name}: microseconds of a call, median and least (calls: {calls})\n");
     let _ = write!(table, "{:<10}{:>6}{:>10}{:>8}", "layout", "supply", "schedules", "bytes");
-    for engine in engines {
+    for (_, engine) in &engines {
         let _ = write!(table, "{:>12}{:>10}", engine.name, "least");
     }
-    for engine in &engines[1..] {
+    for (_, engine) in &engines[1..] {
         let _ = write!(table, "{:>12}", format!("ours/{}", engine.name));
     }
     table += "     ns/byte\n";
     for measured in measured.iter().filter(|one| call.takes(one.study)) {
-        table += &line(call, engines.len(), measured);
+        table += &line(call, &engines, measured);
     }
     table
 }
 
 /// A study's line.
-fn line(call: Call, engines: usize, measured: &Measured) -> String {
+fn line(call: Call, engines: &[(usize, &Engine)], measured: &Measured) -> String {
     let study = measured.study;
     let (layout, supply, schedules) = (study.layout.name(), study.supply_rows, study.schedule_rows);
-    let mut line = format!("{layout:<10}{supply:>6}{schedules:>10}{:>8}", study.bytes());
-    for engine in 0..engines {
+    let bytes = call.bytes(study);
+    let mut line = format!("{layout:<10}{supply:>6}{schedules:>10}{bytes:>8}");
+    for &(engine, _) in engines {
         let times = measured.times(engine, call);
         let _ = write!(line, "{:>12.2}{:>10.2}", times.median() / MICROSECOND, times.least() / MICROSECOND);
     }
     let ours = measured.times(OURS, call).median();
-    for engine in 1..engines {
+    for &(engine, _) in &engines[1..] {
         let _ = write!(line, "{:>12.3}", ours / measured.times(engine, call).median());
     }
-    let _ = writeln!(line, "{:>12.2}", ours / study.bytes() as f64);
+    let _ = writeln!(line, "{:>12.2}", ours / bytes as f64);
     line
 }
 
@@ -73,7 +76,7 @@ fn growth_in_layout(engines: &[Engine], sizes: &[Measured]) -> String {
         format!("{:>12}", format!("{}-{}", from.study.rows(), to.study.rows()))
     });
     for (index, engine) in engines.iter().enumerate() {
-        for call in Call::ALL {
+        for call in Call::ALL.into_iter().filter(|&call| engine.has(call)) {
             table += &line(format!("  {} {}", engine.name, call.name()), &|from, to| {
                 format!("{:>12.2}", power(index, call, from, to))
             });

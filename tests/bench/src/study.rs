@@ -1,8 +1,9 @@
 //! The studies: markets made up from a seed as real ones are, of several sizes and in three layouts, and the largest
-//! with parents. A unit has a few segments of rising cost, a market-based schedule beside its cost-based ones, and
-//! some distance to the constraint. The relief is such that suppliers pass and fail, as far as there are enough of
-//! them.
+//! with parents and with the longest schedules. A unit has a few segments of rising cost, a market-based schedule
+//! beside its cost-based ones, and some distance to the constraint. The relief is such that suppliers pass and fail,
+//! as far as there are enough of them.
 
+use std::collections::BTreeMap;
 use std::fmt::{self, Display, Formatter};
 
 use capping_model::case::ThreeFiles;
@@ -34,6 +35,10 @@ const LAST_SUPPLIER: u64 = 999;
 const SPLITS: [&[u64]; 4] = [&[8, 8], &[10, 6], &[6, 5, 5], &[4, 4, 4, 4]];
 const HOUR: u64 = 8;
 
+/// An hour from which two schedules with a row for each hour to the last have 16 rows.
+const LATE_HOUR: u64 = 16;
+const HOURS: u64 = 24;
+
 const CUTOFF: u64 = 300;
 
 /// "The need is relief × 10000."
@@ -50,10 +55,12 @@ pub enum Layout {
     Quoted,
     /// Unit by unit, no field quoted, and beside them as many parents as there may be.
     Affiliated,
+    /// Unit by unit, no field quoted, and every field of the schedules as long as it may be.
+    Longest,
 }
 
 impl Layout {
-    /// The layouts without parents.
+    /// The layouts of all sizes, without parents.
     pub const ALONE: [Layout; 3] = [Layout::Plain, Layout::Shuffled, Layout::Quoted];
 
     pub fn name(self) -> &'static str {
@@ -62,6 +69,7 @@ impl Layout {
             Layout::Shuffled => "shuffled",
             Layout::Quoted => "quoted",
             Layout::Affiliated => "parents",
+            Layout::Longest => "longest",
         }
     }
 }
@@ -73,13 +81,15 @@ pub struct Study {
     pub schedule_rows: usize,
     pub files: ThreeFiles,
     pub parents: Vec<u8>,
+    /// The schedules unquoted, which is what they are tidied to.
+    pub tidy_schedules: Vec<u8>,
 }
 
-/// All studies without parents, layout by layout and by rising size, then the largest with them.
+/// All studies of several sizes, layout by layout and by rising size, then those of the largest alone.
 pub fn make_all() -> Vec<Study> {
     let sizes = |layout| SUPPLY_ROWS.map(|supply_rows| Study::make(supply_rows, layout));
-    let alone = Layout::ALONE.into_iter().flat_map(sizes);
-    alone.chain([Study::make(MOST_SUPPLY_ROWS, Layout::Affiliated)]).collect()
+    let largest = [Layout::Affiliated, Layout::Longest].map(|layout| Study::make(MOST_SUPPLY_ROWS, layout));
+    Layout::ALONE.into_iter().flat_map(sizes).chain(largest).collect()
 }
 
 impl Study {
@@ -94,6 +104,7 @@ impl Study {
                 random.shuffle(&mut filing.schedules);
             }
             Layout::Affiliated => affiliate(&mut filing, random),
+            Layout::Longest => lengthen(&mut filing),
         }
         Study::of(&filing, layout)
     }
@@ -111,7 +122,9 @@ impl Study {
             _ => Vec::new(),
         };
         let (supply_rows, schedule_rows) = (filing.supply.len(), filing.schedules.len());
-        Study { layout, supply_rows, schedule_rows, files: ThreeFiles(sheets.map(written)), parents }
+        let tidy_schedules = Sheet::schedules(&filing.schedules).join(|_| false);
+        let files = ThreeFiles(sheets.map(written));
+        Study { layout, supply_rows, schedule_rows, files, parents, tidy_schedules }
     }
 
     /// The files as a study takes them.
@@ -162,6 +175,25 @@ fn affiliate(filing: &mut Filing, random: &mut Random) {
         filing.parents.extend([Parent { supplier, parent }, Parent { supplier: parent, parent: head }]);
     }
     filing.constraint.relief = choose_relief(filing);
+}
+
+/// Makes every field of the schedules as long as it may be: the units have numbers of four digits then, and two
+/// schedules each, whose run is from a late hour to the last.
+fn lengthen(filing: &mut Filing) {
+    filing.constraint.hour = LATE_HOUR;
+    let numbers: BTreeMap<u64, u64> = filing.units().into_iter().zip(1_000..).collect();
+    for row in &mut filing.supply {
+        row.unit = numbers[&row.unit];
+    }
+    let both = |&unit: &u64| [(unit, 10, Kind::M, 150_000), (unit, 11, Kind::C, 140_000)];
+    filing.schedules = numbers.values().flat_map(both).flat_map(longest_rows).collect();
+}
+
+/// The rows of a schedule by its unit, number, kind and price, which are as long as they may be.
+fn longest_rows((unit, schedule, kind, price): (u64, u64, Kind, u64)) -> impl Iterator<Item = Schedule> {
+    let (ecomin, noload, startup, minrun) = (100_000, 100_000_000, 100_000_000, 24);
+    let row = move |hour| Schedule { unit, schedule, kind, hour, ecomin, price, noload, startup, minrun };
+    (LATE_HOUR..HOURS).map(row)
 }
 
 /// The supply rows of a unit, from a cost upwards. One unit in ten is too far off to be eligible.
@@ -221,6 +253,7 @@ mod tests {
     use std::collections::BTreeSet;
 
     use super::*;
+    use crate::engine::LONGEST_TIDY;
     use capping_model::generator::sheet::LARGEST_FILE;
 
     fn read(study: &Study) -> Filing {
@@ -242,6 +275,13 @@ mod tests {
         assert_eq!((filing.supply.len(), filing.schedules.len(), filing.parents.len()), (256, 1_024, 64));
         let heads: BTreeSet<u64> = filing.heads().into_values().collect();
         assert_eq!((filing.suppliers().len(), heads.len()), (32, 16));
+    }
+
+    #[test]
+    fn the_longest_schedules_are_as_long_as_a_tidy_file_may_be() {
+        let study = Study::make(256, Layout::Longest);
+        assert_eq!(study.files.0[2].len(), LONGEST_TIDY);
+        assert_eq!(read(&study).schedules.len(), 1_024);
     }
 
     #[test]

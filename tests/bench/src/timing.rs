@@ -1,12 +1,12 @@
-//! The rounds: in each, every engine studies every study once, and checks it where it has no parents, so that a
-//! load of the machine hits all alike.
+//! The rounds: in each, every engine studies every study once, and checks it and tidies its schedules where it has no
+//! parents, so that a load of the machine hits all alike.
 
 use std::hint::black_box;
 use std::time::{Duration, Instant};
 
 use capping_model::answer::LONGEST;
 
-use crate::engine::{Call, Engine};
+use crate::engine::{Call, Engine, LONGEST_TIDY};
 use crate::study::Study;
 
 pub const ROUNDS: usize = 400;
@@ -37,10 +37,10 @@ impl Times {
     }
 }
 
-/// What was measured on a study, by engine: its study and its check.
+/// What was measured on a study, by engine and call.
 pub struct Measured<'a> {
     pub study: &'a Study,
-    times: Vec<[Times; 2]>,
+    times: Vec<[Times; Call::ALL.len()]>,
 }
 
 impl Measured<'_> {
@@ -64,7 +64,7 @@ pub fn measure<'a>(engines: &[Engine], studies: &'a [Study]) -> Vec<Measured<'a>
 /// The calls that one round has on one study.
 fn measure_round(round: usize, engines: &[Engine], measured: &mut Measured) {
     let (files, three) = (measured.study.lend(), measured.study.files.lend());
-    let mut buffer = [0; LONGEST];
+    let (mut buffer, mut tidy_buffer) = ([0; LONGEST], [0; LONGEST_TIDY]);
     for (engine, times) in engines.iter().zip(&mut measured.times) {
         if !round.is_multiple_of(engine.rounds_a_call) {
             continue;
@@ -72,6 +72,10 @@ fn measure_round(round: usize, engines: &[Engine], measured: &mut Measured) {
         times[Call::Study as usize].add(time(|| (engine.study)(black_box(&files), black_box(&mut buffer))));
         if Call::Check.takes(measured.study) {
             times[Call::Check as usize].add(time(|| (engine.check)(black_box(three))));
+        }
+        if let Some(tidy) = engine.tidy.filter(|_| Call::Tidy.takes(measured.study)) {
+            let call = || tidy(black_box(files.schedules), black_box(&mut tidy_buffer));
+            times[Call::Tidy as usize].add(time(call));
         }
     }
 }

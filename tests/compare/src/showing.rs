@@ -6,7 +6,7 @@ use capping_model::case::{read_hex, Case};
 
 use crate::run::{Asked, Run};
 
-/// The files of a study; a check has the first three.
+/// The files of a study; a check has the first three, and one of these is handed back tidy.
 const FILES: [&str; 4] = ["constraint", "supply", "schedules", "parents"];
 
 /// A difference: the case and both answers.
@@ -24,22 +24,24 @@ pub fn show_case(run: &Run, asked: &Asked) -> String {
     let line = String::from_utf8_lossy(&asked.line);
     let mut report =
         format!("case {index} of seed {seed} (generate {seed} 1 {index})\n  {}\n", shortened(&line));
-    for (name, file) in FILES.iter().zip(files_of(&asked.line)) {
+    for (name, file) in files_of(&asked.line) {
         let _ = writeln!(report, "{name}\n{}", readable(&file));
     }
     report
 }
 
-/// The files of a case, in the order of their names.
-fn files_of(line: &[u8]) -> Vec<Vec<u8>> {
-    match Case::read(line) {
-        Some(Case::Study { files, parents, .. }) => files.0.into_iter().chain([parents]).collect(),
-        Some(Case::Check { files }) => files.0.to_vec(),
-        _ => Vec::new(),
-    }
+/// The files of a case, each with its name.
+fn files_of(line: &[u8]) -> Vec<(&'static str, Vec<u8>)> {
+    let (first, files) = match Case::read(line) {
+        Some(Case::Study { files, parents, .. }) => (1, files.0.into_iter().chain([parents]).collect()),
+        Some(Case::Check { files }) => (1, files.0.to_vec()),
+        Some(Case::Tidy { kind, file, .. }) => (kind.number() as usize, vec![file]),
+        _ => (1, Vec::new()),
+    };
+    FILES.into_iter().skip(first - 1).zip(files).collect()
 }
 
-/// The answer file of an accepted study as text.
+/// The file that an accepted study wrote, or one that was handed back tidy, as text.
 fn show_answer(answer: &str) -> String {
     let hex = answer.strip_prefix("ok ").and_then(|rest| rest.split(' ').next());
     match hex.filter(|hex| hex.len() > 40).and_then(read_hex) {
@@ -84,6 +86,8 @@ mod tests {
         let files = "constraint\n  a\nsupply\n  b\nschedules\n  c\n";
         assert!(show("study - 61 62 63 64 0").ends_with(&format!("{files}parents\n  d\n")));
         assert!(show("check 61 62 63").ends_with(files));
+        assert!(show("tidy 1 61 0").ends_with("tidy 1 61 0\nconstraint\n  a\n"));
+        assert!(show("tidy 3 61 0").ends_with("tidy 3 61 0\nschedules\n  a\n"));
         assert!(show("release - 1").ends_with("release - 1\n"));
     }
 }

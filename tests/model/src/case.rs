@@ -5,12 +5,13 @@
 //! release DAY UNIT           ok DAY             or   no NUMBER FILE PLACE
 //! test NEED PLACE a,b,c      ok LEFT P   or   ok LEFT F   or   no 11 0 0
 //! check C S H                NUMBER
+//! tidy N FILE BUFLEN         ok TIDYHEX         or   no NUMBER FILE PLACE
 //! ```
 //!
 //! DAY is `-` for a fresh day or `H;u:k:s,u:k:s`: H the hour or `n` for none, u a unit, k its kind, s
 //! its schedule. C, S, H and P are the files constraint, supply, schedules and parents in lower-case
-//! hex, `.` for an empty file; `.` stands for no amounts too. Whatever isn't in this form is answered by
-//! `unreadable case`.
+//! hex, `.` for an empty file; `.` stands for no amounts too. FILE is constraint, supply or schedules in
+//! the same form, and N its number. Whatever isn't in this form is answered by `unreadable case`.
 
 use std::fmt::{self, Display, Formatter, Write};
 
@@ -20,9 +21,13 @@ use crate::pivotal::test;
 use crate::refusal::Refusal;
 use crate::rules::Files;
 use crate::table::Kind;
+use crate::tidy::{tidy, FileKind};
 
-/// The longest buffer that a case may lend.
+/// The longest buffer that a study may be lent.
 pub const LONGEST_BUFFER: u64 = 4_096;
+
+/// The longest buffer that a tidy file may be written into; it holds every one.
+pub const LONGEST_TIDY_BUFFER: u64 = 65_536;
 
 /// The most units of a day, and amounts of a test, that a case may have.
 pub const LONGEST_LIST: usize = 1_000;
@@ -57,6 +62,7 @@ pub enum Case {
     Release { day: Day, unit: u64 },
     Test { need: u64, place: u64, amounts: Vec<u64> },
     Check { files: ThreeFiles },
+    Tidy { kind: FileKind, file: Vec<u8>, buffer: u64 },
 }
 
 /// The answer to a line.
@@ -77,7 +83,7 @@ impl Case {
                 day: read_day(day)?,
                 files: read_files([c, s, h])?,
                 parents: read_hex(p)?,
-                buffer: read_number(buffer).filter(|&length| length <= LONGEST_BUFFER)?,
+                buffer: read_length(buffer, LONGEST_BUFFER)?,
             }),
             ["release", day, unit] => Some(Case::Release { day: read_day(day)?, unit: read_number(unit)? }),
             ["test", need, place, amounts] => Some(Case::Test {
@@ -86,6 +92,11 @@ impl Case {
                 amounts: read_amounts(amounts)?,
             }),
             ["check", c, s, h] => Some(Case::Check { files: read_files([c, s, h])? }),
+            ["tidy", number, file, buffer] => Some(Case::Tidy {
+                kind: FileKind::numbered(read_number(number)?)?,
+                file: read_hex(file)?,
+                buffer: read_length(buffer, LONGEST_TIDY_BUFFER)?,
+            }),
             _ => None,
         }
     }
@@ -103,23 +114,40 @@ impl Case {
                 Err(refusal) => refusal.to_string(),
             },
             Case::Check { files } => check(files.lend()).to_string(),
+            Case::Tidy { kind, file, buffer } => answer_tidy(kind, &file, buffer),
         }
     }
 }
 
-/// A study in a buffer that was filled with a pattern first.
 fn answer_study(day: Day, files: &Files, buffer: u64) -> String {
-    let pattern: Vec<u8> = (0..buffer).map(|place| (place * 7 + 3) as u8).collect();
+    match lend(buffer, |lent| day.study(files, lent)) {
+        (next, Ok(answer)) => format!("ok {} {next}", Hex(&answer)),
+        (_, Err(other)) => other,
+    }
+}
+
+fn answer_tidy(kind: FileKind, file: &[u8], buffer: u64) -> String {
+    match lend(buffer, |lent| ((), tidy(kind, file, lent))) {
+        (_, Ok(bytes)) => format!("ok {}", Hex(&bytes)),
+        (_, Err(other)) => other,
+    }
+}
+
+/// What a call writes into a buffer of a length that was filled with a pattern first, beside what else
+/// it gives back. Where it is refused or changes a byte that had to stay, the answer to its case instead.
+fn lend<Beside>(
+    length: u64,
+    call: impl FnOnce(&mut [u8]) -> (Beside, Result<usize, Refusal>),
+) -> (Beside, Result<Vec<u8>, String>) {
+    let pattern: Vec<u8> = (0..length).map(|place| (place * 7 + 3) as u8).collect();
     let mut lent = pattern.clone();
-    let (next, result) = day.study(files, &mut lent);
+    let (beside, result) = call(&mut lent);
     let written = *result.as_ref().unwrap_or(&0);
     if lent[written..] != pattern[written..] {
-        return SPOILT.to_string();
+        return (beside, Err(SPOILT.to_string()));
     }
-    match result {
-        Ok(length) => format!("ok {} {next}", Hex(&lent[..length])),
-        Err(refusal) => refusal.to_string(),
-    }
+    lent.truncate(written);
+    (beside, result.map(|_| lent).map_err(|refusal| refusal.to_string()))
 }
 
 impl Display for Refusal {
@@ -165,6 +193,9 @@ impl Display for Case {
                 write!(out, "test {need} {place} {}", amounts.join(","))
             }
             Case::Check { files } => write!(out, "check {files}"),
+            Case::Tidy { kind, file, buffer } => {
+                write!(out, "tidy {} {} {buffer}", kind.number(), Hex(file))
+            }
         }
     }
 }
@@ -213,6 +244,11 @@ fn read_number(text: &str) -> Option<u64> {
         return None;
     }
     text.parse().ok()
+}
+
+/// The length of a buffer, up to the longest.
+fn read_length(text: &str, longest: u64) -> Option<u64> {
+    read_number(text).filter(|&length| length <= longest)
 }
 
 fn read_files(words: [&str; 3]) -> Option<ThreeFiles> {
@@ -279,6 +315,37 @@ mod tests {
         assert_eq!(ask("study - . . . . 4096"), "no 2 1 0");
     }
 
+    /// "hour,relief,cutoff" and a row, in hex.
+    const HEADER: &str = "686f75722c72656c6965662c6375746f6666";
+    const ROW: &str = "352c312c31";
+
+    #[test]
+    fn tidy_files() {
+        let bare = format!("{HEADER}0d0a{ROW}");
+        for room in [27, 28, 65_536] {
+            assert_eq!(ask(&format!("tidy 1 {bare} {room}")), format!("ok {bare}0d0a"), "{room}");
+        }
+        assert_eq!(ask(&format!("tidy 1 {bare} 26")), "no 30 0 0");
+        assert_eq!(ask(&format!("tidy 1 {HEADER} 0")), "no 4 1 0");
+        assert_eq!(ask(&format!("tidy 2 {bare} 65536")), "no 2 2 0");
+        assert_eq!(ask("tidy 3 . 65536"), "no 2 3 0");
+    }
+
+    #[test]
+    fn a_byte_that_had_to_stay_spoils_the_case() {
+        let call = |place: usize, result: Result<usize, Refusal>| {
+            let change = |lent: &mut [u8]| {
+                lent[place] ^= 1;
+                ((), result)
+            };
+            lend(3, change).1
+        };
+        assert_eq!(call(1, Ok(2)), Ok(vec![3, 11]));
+        assert_eq!(call(2, Ok(2)), Err(SPOILT.to_string()));
+        assert_eq!(call(0, Err(Refusal::nowhere(30))), Err(SPOILT.to_string()));
+        assert_eq!(lend(3, |_| ((), Err(Refusal::nowhere(30)))).1, Err("no 30 0 0".to_string()));
+    }
+
     #[test]
     fn what_is_not_in_the_form_is_unreadable() {
         let lines = [
@@ -302,6 +369,15 @@ mod tests {
             "test -1 0 1",
             "check . .",
             "Check . . .",
+            "tidy",
+            "tidy 1 .",
+            "tidy . 1",
+            "tidy 0 . 1",
+            "tidy 4 . 1",
+            "tidy 01 . 1",
+            "tidy 1 0 1",
+            "tidy 1 . 65537",
+            "tidy 1 . . 1",
         ];
         for line in lines {
             assert_eq!(ask(line), UNREADABLE, "{line}");
@@ -317,6 +393,8 @@ mod tests {
             "test 1 2 3,4",
             "test 0 0 .",
             "check . . 61",
+            "tidy 1 . 0",
+            "tidy 3 0aff 65536",
         ] {
             assert_eq!(Case::read(line.as_bytes()).unwrap().to_string(), line);
         }

@@ -18,7 +18,8 @@ pub type Field = Vec<u8>;
 /// The fields between two ends of record.
 pub type Record = Vec<Field>;
 
-const CRLF: &[u8] = b"\r\n";
+/// The end of a record.
+pub const CRLF: &[u8] = b"\r\n";
 
 /// The records of a file, or `None` where it isn't RFC 4180.
 ///

@@ -1,5 +1,5 @@
-//! The offer capping engine, written down from document 01, with request F-6 of document 02, and from
-//! nothing else.
+//! The offer capping engine, written down from document 01, with requests F-1 and F-6 of document 02, and
+//! from nothing else.
 //!
 //! It is a model: every function says one sentence of the paper, nothing is tuned, and whoever
 //! doubts an engine can read here what the paper asks. The modules stand in the paper's order.
@@ -17,6 +17,7 @@
 //! | [`answer`] | the answer file |
 //! | [`study`] | everything above in the order of the refusals |
 //! | [`check`] | the check for host programs |
+//! | [`tidy`] | a file handed back tidy, and the refusal 30 |
 //!
 //! What follows isn't in the paper: [`case`] reads and answers cases written as lines, [`judge`]
 //! weighs any answer by the words of demand 3, [`changes`] makes answers for it to reject,
@@ -38,6 +39,7 @@ pub mod day;
 pub mod answer;
 pub mod study;
 pub mod check;
+pub mod tidy;
 
 pub mod case;
 pub mod judge;

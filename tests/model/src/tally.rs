@@ -1,9 +1,10 @@
-//! How often each refusal and each verdict was reached by the cases of a run, and what parents did.
+//! How often each refusal and each verdict was reached by the cases of a run, what parents did, and what
+//! was handed back tidy.
 
 use std::collections::BTreeMap;
 use std::fmt::{self, Display, Formatter};
 
-use crate::case::{read_hex, UNREADABLE};
+use crate::case::{read_hex, Case, UNREADABLE};
 use crate::grouping::Grouping;
 
 /// Something that a case can reach.
@@ -32,13 +33,26 @@ pub enum Reached {
     AnswerMoved,
     /// .. and one in which a verdict is another.
     VerdictMoved,
+    /// A refusal of a file to be handed back tidy, by number and file.
+    NotTidied(u64, u64),
+    /// A file that was handed back tidy, by its number, ..
+    Tidied(u64),
+    /// .. one whose bytes had been tidy already, ..
+    AlreadyTidy(u64),
+    /// .. one in a buffer that just held it, ..
+    TidyFitting(u64),
+    /// .. and one with as many rows as there may be.
+    TidyFull(u64),
 }
 
 /// The files, as refusals name them; 0 for none.
 const FILES: [u64; 5] = [0, 1, 2, 3, 5];
 
-/// The refusals, each with the files that it can name.
-const REFUSALS: [(u64, &[u64]); 18] = [
+/// A refusal's number, with the files that it can name.
+type Named = (u64, &'static [u64]);
+
+/// The refusals of a study, a release or a lone test.
+const REFUSALS: [Named; 18] = [
     (1, &[1, 2, 3, 5]),
     (2, &[1, 2, 3, 5]),
     (3, &[1, 2, 3, 5]),
@@ -57,6 +71,21 @@ const REFUSALS: [(u64, &[u64]); 18] = [
     (24, &[0]),
     (35, &[5]),
     (36, &[5]),
+];
+
+/// The refusals of a file to be handed back tidy.
+const TIDY_REFUSALS: [Named; 7] =
+    [(1, &[1, 2, 3]), (2, &[1, 2, 3]), (3, &[1, 2, 3]), (4, &[1, 2, 3]), (5, &[2]), (6, &[2, 3]), (30, &[0])];
+
+/// Something that a file can reach, by its number.
+type ByFile = fn(u64) -> Reached;
+
+/// What can be said of a file that was handed back tidy, in words.
+const TIDIED: [(&str, ByFile); 4] = [
+    ("tidied", Reached::Tidied),
+    ("tidy already", Reached::AlreadyTidy),
+    ("in a fitting buffer", Reached::TidyFitting),
+    ("of all rows", Reached::TidyFull),
 ];
 
 /// What else parents can do in an accepted study, in words.
@@ -121,14 +150,53 @@ impl Tally {
         }
         writeln!(out)
     }
+
+    /// What was handed back tidy.
+    fn show_tidy(&self, out: &mut Formatter) -> fmt::Result {
+        writeln!(out, "tidy       file 0    file 1    file 2    file 3")?;
+        self.show_refusals(&TIDY_REFUSALS, &FILES[..4], Reached::NotTidied, out)?;
+        for (what, reached) in TIDIED {
+            let [constraint, supply, schedules] = [1, 2, 3].map(|file| self.of(reached(file)));
+            writeln!(out, "{what}: {constraint} of file 1, {supply} of file 2, {schedules} of file 3")?;
+        }
+        Ok(())
+    }
+
+    /// A line for each refusal, with a count for each file that it can name.
+    fn show_refusals(
+        &self,
+        refusals: &[Named],
+        columns: &[u64],
+        reached: fn(u64, u64) -> Reached,
+        out: &mut Formatter,
+    ) -> fmt::Result {
+        for (number, files) in refusals {
+            write!(out, "{number:7}")?;
+            for file in columns {
+                match files.contains(file) {
+                    true => write!(out, "{:10}", self.of(reached(*number, *file)))?,
+                    false => write!(out, "{:>10}", ".")?,
+                }
+            }
+            writeln!(out)?;
+        }
+        Ok(())
+    }
+}
+
+/// Each refusal with each file that it can name.
+fn each(refusals: &[Named], reached: fn(u64, u64) -> Reached) -> Vec<Reached> {
+    let of_files = |(number, files): &Named| files.iter().map(|&file| reached(*number, file)).collect();
+    refusals.iter().flat_map::<Vec<Reached>, _>(of_files).collect()
 }
 
 /// Everything that a right engine can be brought to.
 fn can_occur() -> Vec<Reached> {
-    let refusals = REFUSALS.iter();
-    let mut all: Vec<Reached> = refusals
-        .flat_map(|(number, files)| files.iter().map(|&file| Reached::Refusal(*number, file)))
-        .collect();
+    let mut all = each(&REFUSALS, Reached::Refusal);
+    all.extend(each(&TIDY_REFUSALS, Reached::NotTidied));
+    for (_, reached) in TIDIED {
+        all.extend([1, 2, 3].map(reached));
+    }
     all.extend((0..=9).map(Reached::Check));
     all.extend(['U', 'P', 'F'].map(Reached::Row));
     all.extend(['P', 'F'].map(Reached::Test));
@@ -151,6 +219,8 @@ fn reached(case: &[u8], answer: &str) -> Vec<Reached> {
             let number = count(number);
             vec![Reached::Refusal(number, count(file)), Reached::Place(number, band(count(place)))]
         }
+        (b"tidy", ["no", number, file, _]) => vec![Reached::NotTidied(count(number), count(file))],
+        (b"tidy", ["ok", hex]) => reached_by_tidy(case, hex),
         (_, ["no", number, file, _]) => vec![Reached::Refusal(count(number), count(file))],
         (b"study", ["ok", hex, _]) => {
             let rows = verdicts(hex).into_iter().map(Reached::Row);
@@ -178,6 +248,20 @@ fn reached_by_parents(case: &[u8], answer: &str) -> Vec<Reached> {
     found.chain([Reached::Chain(band(grouping.longest_chain))]).collect()
 }
 
+/// What a file reached that was handed back tidy, in hex.
+fn reached_by_tidy(case: &[u8], hex: &str) -> Vec<Reached> {
+    let Some(Case::Tidy { kind, file, buffer }) = Case::read(case) else { return Vec::new() };
+    let tidy = read_hex(hex).unwrap_or_default();
+    let records = tidy.iter().filter(|&&byte| byte == b'\n').count();
+    let found = [
+        (true, Reached::Tidied(kind.number())),
+        (file == tidy, Reached::AlreadyTidy(kind.number())),
+        (tidy.len() as u64 == buffer, Reached::TidyFitting(kind.number())),
+        (records == 1 + kind.table().rows.end(), Reached::TidyFull(kind.number())),
+    ];
+    found.into_iter().filter(|(reached, _)| *reached).map(|(_, what)| what).collect()
+}
+
 fn count(word: &str) -> u64 {
     word.parse().unwrap_or(u64::MAX)
 }
@@ -192,16 +276,7 @@ fn verdicts(hex: &str) -> Vec<char> {
 impl Display for Tally {
     fn fmt(&self, out: &mut Formatter) -> fmt::Result {
         writeln!(out, "refusal    file 0    file 1    file 2    file 3    file 5")?;
-        for (number, files) in REFUSALS {
-            write!(out, "{number:7}")?;
-            for file in FILES {
-                match files.contains(&file) {
-                    true => write!(out, "{:10}", self.of(Reached::Refusal(number, file)))?,
-                    false => write!(out, "{:>10}", ".")?,
-                }
-            }
-            writeln!(out)?;
-        }
+        self.show_refusals(&REFUSALS, &FILES, Reached::Refusal, out)?;
         write!(out, "check  ")?;
         for number in 0..=9 {
             write!(out, "  {number}: {}", self.of(Reached::Check(number)))?;
@@ -214,6 +289,7 @@ impl Display for Tally {
         writeln!(out, "tests    P: {}, F: {}", tests[0], tests[1])?;
         writeln!(out, "releases accepted: {}", self.of(Reached::Release))?;
         self.show_parents(out)?;
+        self.show_tidy(out)?;
         write!(out, "unreadable: {}", self.of(Reached::Unreadable))
     }
 }
@@ -248,6 +324,23 @@ mod tests {
         assert_eq!(reached(&["4,5"]), [Reached::Chain(1)]);
         assert_eq!(reached(&["5,6"]), [Reached::AbsentGroup, Reached::Chain(0)]);
         assert_eq!(reached(&["4,5", "1,5"]), [Reached::AbsentHead, Reached::AnswerMoved, Reached::Chain(1)]);
+    }
+
+    #[test]
+    fn tidy_files_count_by_what_they_were() {
+        let reached = |file: &str, buffer: u64| {
+            let line = format!("tidy 2 {} {buffer}", Hex(file.as_bytes()));
+            reached(line.as_bytes(), &case::answer(line.as_bytes()))
+        };
+        let header = "unit,supplier,mw,cost,dfax";
+        let already = [Reached::Tidied(2), Reached::AlreadyTidy(2)];
+        assert_eq!(reached(header, 29), [Reached::Tidied(2)]);
+        assert_eq!(reached(header, 28), [Reached::Tidied(2), Reached::TidyFitting(2)]);
+        assert_eq!(reached(header, 27), [Reached::NotTidied(30, 0)]);
+        assert_eq!(reached(&format!("{header}\r\n"), 29), already);
+        assert_eq!(reached("", 29), [Reached::NotTidied(2, 2)]);
+        let full = format!("{header}{}", "\r\n1,1,1,1,1".repeat(256));
+        assert_eq!(reached(&full, 65_536), [Reached::Tidied(2), Reached::TidyFull(2)]);
     }
 
     #[test]

@@ -1,11 +1,12 @@
 //! What a line asks, read from its words. Assumes nothing of the line, which may be of any length.
 
-use capping::Day;
+use capping::{Day, File};
 
 use crate::hex;
 
-/// The longest buffer that a case may lend.
+/// The longest buffer that a case may lend to a study, and to the tidying of a file.
 pub const LONGEST_BUFFER: usize = 4_096;
+pub const LONGEST_TIDY_BUFFER: usize = 65_536;
 
 /// The most amounts that a case may have.
 const MOST_AMOUNTS: usize = 1_000;
@@ -17,6 +18,7 @@ pub type ThreeFiles = [Vec<u8>; 3];
 pub enum Asked {
     Study { day: Day, files: ThreeFiles, parents: Vec<u8>, lent: usize },
     Release { day: Day, unit: u64 },
+    Tidy { file: File, bytes: Vec<u8>, lent: usize },
     Test { need: u64, place: usize, amounts: Vec<u64> },
     Check { files: ThreeFiles },
 }
@@ -30,9 +32,14 @@ impl Asked {
                 day: read_day(day)?,
                 files: read_files(c, s, h)?,
                 parents: hex::read(p)?,
-                lent: read_lent(lent)?,
+                lent: read_lent(lent, LONGEST_BUFFER)?,
             }),
             [b"release", day, unit] => Some(Asked::Release { day: read_day(day)?, unit: read_number(unit)? }),
+            [b"tidy", number, file, lent] => Some(Asked::Tidy {
+                file: read_file_number(number)?,
+                bytes: hex::read(file)?,
+                lent: read_lent(lent, LONGEST_TIDY_BUFFER)?,
+            }),
             [b"test", need, place, amounts] => Some(Asked::Test {
                 need: read_number(need)?,
                 place: read_size(place)?,
@@ -52,8 +59,17 @@ fn read_files(constraint: &[u8], supply: &[u8], schedules: &[u8]) -> Option<Thre
     Some([hex::read(constraint)?, hex::read(supply)?, hex::read(schedules)?])
 }
 
-fn read_lent(word: &[u8]) -> Option<usize> {
-    read_size(word).filter(|&lent| lent <= LONGEST_BUFFER)
+fn read_file_number(word: &[u8]) -> Option<File> {
+    match word {
+        b"1" => Some(File::Constraint),
+        b"2" => Some(File::Supply),
+        b"3" => Some(File::Schedules),
+        _ => None,
+    }
+}
+
+fn read_lent(word: &[u8], longest: usize) -> Option<usize> {
+    read_size(word).filter(|&lent| lent <= longest)
 }
 
 fn read_amounts(word: &[u8]) -> Option<Vec<u64>> {
@@ -103,6 +119,10 @@ mod tests {
             Some(Asked::Study { day: day("5;1:M:2"), files: files(), parents: vec![1, 2], lent: 12 })
         );
         assert_eq!(read("release - 7"), Some(Asked::Release { day: Day::fresh(), unit: 7 }));
+        for (number, file) in [(1, File::Constraint), (2, File::Supply), (3, File::Schedules)] {
+            let tidy = Asked::Tidy { file, bytes: vec![0x0a, 0xff], lent: 12 };
+            assert_eq!(read(&format!("tidy {number} 0aff 12")), Some(tidy));
+        }
         assert_eq!(read("test 1 2 3,4"), Some(Asked::Test { need: 1, place: 2, amounts: vec![3, 4] }));
         assert_eq!(read("test 0 0 ."), Some(Asked::Test { need: 0, place: 0, amounts: vec![] }));
         assert_eq!(read("check 0aff . 00"), Some(Asked::Check { files: files() }));
@@ -126,6 +146,9 @@ mod tests {
         assert!(read("study - . . . . 0").is_some());
         assert!(read("study - . . . . 4096").is_some());
         assert_eq!(read("study - . . . . 4097"), None);
+        assert!(read("tidy 1 . 0").is_some());
+        assert!(read("tidy 1 . 65536").is_some());
+        assert_eq!(read("tidy 1 . 65537"), None);
     }
 
     #[test]
@@ -175,6 +198,16 @@ mod tests {
             "release 5;1:M 7",
             "release 5;1:M:1, 7",
             "release 5;1:M:1 7 7",
+            "tidy 1 .",
+            "tidy 1 . ",
+            "tidy 0 . 1",
+            "tidy 4 . 1",
+            "tidy 5 . 1",
+            "tidy 01 . 1",
+            "tidy 1 0 1",
+            "tidy 1 . 01",
+            "tidy 1 . 1 1",
+            "tidy 1 . . 1",
             "test 1 0",
             "test 1 0 ",
             "test -1 0 1",

@@ -4,12 +4,14 @@
 //! ```text
 //! study DAY C S H P BUFLEN   ok ANSWERHEX DAY   or   no NUMBER FILE PLACE
 //! release DAY UNIT           ok DAY             or   no NUMBER FILE PLACE
+//! tidy N FILE BUFLEN         ok TIDYHEX         or   no NUMBER FILE PLACE
 //! test NEED PLACE a,b,c      ok LEFT P   or   ok LEFT F   or   no 11 0 0
 //! check C S H                NUMBER
 //! ```
 //!
 //! DAY is a day in the words of `hosts/rust`. C, S, H and P are the files, P the parents, in lower-case
-//! hex, `.` for an empty file; `.` stands for no amounts too. Whatever isn't in this form is answered by
+//! hex, `.` for an empty file, and so is FILE, which N says is 1 the constraint, 2 supply or 3 schedules;
+//! `.` stands for no amounts too. Whatever isn't in this form is answered by
 //! `unreadable case`, and a case in which the engine changed what it had to leave alone by `spoilt`.
 //!
 //! The model reads the same lines. Nothing of its reader is used here, so that the two are held against
@@ -18,18 +20,18 @@
 mod asked;
 mod hex;
 
-use capping::{Day, Files, Refusal, Verdict};
+use capping::{Day, File, Files, Refusal, Verdict};
 
-use asked::{Asked, LONGEST_BUFFER};
+use asked::{Asked, LONGEST_BUFFER, LONGEST_TIDY_BUFFER};
 use hex::Hex;
 
-/// What the buffer is filled with before it is lent. No answer file has this byte.
+/// What the buffer is filled with before it is lent. No answer file and no tidy file has this byte.
 const PATTERN: u8 = 0xA5;
 
 /// The answer to a line that can't be read.
 const UNREADABLE: &str = "unreadable case";
 
-/// The answer where a byte behind the answer, or with a refusal any byte or a cell of the day, changed.
+/// The answer where a byte behind what is written, or with a refusal any byte or a cell of the day, changed.
 const SPOILT: &str = "spoilt";
 
 /// The answer to a line, which is given without its end.
@@ -39,6 +41,7 @@ pub fn answer(line: &[u8]) -> String {
             study(day, Files::new(&c, &s, &h).with_parents(&parents), lent)
         }
         Some(Asked::Release { day, unit }) => release(day, unit),
+        Some(Asked::Tidy { file, bytes, lent }) => tidy(file, &bytes, lent),
         Some(Asked::Test { need, place, amounts }) => test(&amounts, place, need),
         Some(Asked::Check { files: [c, s, h] }) => check(&c, &s, &h),
         None => UNREADABLE.to_string(),
@@ -54,11 +57,31 @@ fn study(given: Day, files: Files, lent: usize) -> String {
 }
 
 fn say_studied(result: Result<usize, Refusal>, buffer: &[u8], given: &Day, after: &Day) -> String {
-    match result {
-        Ok(count) if is_kept(buffer, count) => format!("ok {} {after}", Hex(&buffer[..count])),
-        Err(refusal) if is_kept(buffer, 0) => say_refused(refusal, given, after),
-        _ => SPOILT.to_string(),
+    match written(result, buffer) {
+        Some(Ok(answer)) => format!("ok {} {after}", Hex(answer)),
+        Some(Err(refusal)) => say_refused(refusal, given, after),
+        None => SPOILT.to_string(),
     }
+}
+
+/// Tidies in the first bytes of a longer buffer too.
+fn tidy(file: File, bytes: &[u8], lent: usize) -> String {
+    let mut buffer = vec![PATTERN; LONGEST_TIDY_BUFFER];
+    let result = capping::tidy_into(file, bytes, &mut buffer[..lent]);
+    say_tidied(result, &buffer)
+}
+
+fn say_tidied(result: Result<usize, Refusal>, buffer: &[u8]) -> String {
+    match written(result, buffer) {
+        Some(Ok(tidy)) => format!("ok {}", Hex(tidy)),
+        Some(Err(refusal)) => say_no(refusal),
+        None => SPOILT.to_string(),
+    }
+}
+
+/// What a call wrote from the start of a buffer, or its refusal, where the pattern stands in all other bytes.
+fn written(result: Result<usize, Refusal>, buffer: &[u8]) -> Option<Result<&[u8], Refusal>> {
+    is_kept(buffer, result.unwrap_or(0)).then(|| result.map(|count| &buffer[..count]))
 }
 
 /// Whether the pattern stands from a place on.
@@ -175,6 +198,23 @@ mod tests {
     }
 
     #[test]
+    fn tidied_files() {
+        let tidy = |number: u64, text: &str, lent: usize| {
+            ask(&format!("tidy {number} {} {lent}", Hex(text.as_bytes())))
+        };
+        let ok = |text: &str| format!("ok {}", Hex(text.as_bytes()));
+        let constraint = "hour,relief,cutoff\r\n5,1000,300\r\n";
+        assert_eq!(tidy(1, "hour,relief,cutoff\r\n\"5\",1000,300", 32), ok(constraint));
+        assert_eq!(tidy(1, constraint, 31), "no 30 0 0");
+        let supply = "unit,supplier,mw,cost,dfax\r\n";
+        assert_eq!(tidy(2, supply, 65_536), ok(supply));
+        assert_eq!(tidy(2, supply, 28), ok(supply));
+        assert_eq!(tidy(2, supply, 27), "no 30 0 0");
+        assert_eq!(tidy(3, supply, 0), "no 2 3 0");
+        assert_eq!(ask("tidy 2 . 0"), "no 2 2 0");
+    }
+
+    #[test]
     fn tests_and_checks() {
         assert_eq!(ask("test 2 3 4,3,2,1"), "ok 2 P");
         assert_eq!(ask("test 3 3 4,3,2,1"), "ok 2 F");
@@ -194,6 +234,15 @@ mod tests {
         last[LONGEST_BUFFER - 1] ^= 1;
         assert_eq!(say(Ok(2), &last), "spoilt");
         assert_eq!(say(Ok(LONGEST_BUFFER + 1), &buffer(b"11")), "spoilt");
+    }
+
+    #[test]
+    fn a_byte_changed_besides_spoils_a_tidy_file() {
+        let refusal = Refusal { number: 30, file: 0, place: 0 };
+        assert_eq!(say_tidied(Ok(2), &buffer(b"11")), "ok 3131");
+        assert_eq!(say_tidied(Ok(2), &buffer(b"111")), "spoilt");
+        assert_eq!(say_tidied(Err(refusal), &buffer(b"")), "no 30 0 0");
+        assert_eq!(say_tidied(Err(refusal), &buffer(b"1")), "spoilt");
     }
 
     #[test]

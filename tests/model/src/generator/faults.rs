@@ -13,6 +13,12 @@ use crate::table::{Kind, Range, Schedule, Supply};
 pub const NUMBERS: [u64; 24] =
     [1, 1, 2, 2, 3, 3, 3, 3, 4, 5, 6, 6, 7, 8, 9, 10, 20, 21, 22, 24, 35, 35, 36, 36];
 
+/// None, one or two of several numbers.
+pub fn make_faults(numbers: &[u64], random: &mut Random) -> Vec<u64> {
+    let count = random.pick(&[0, 0, 0, 0, 0, 0, 1, 1, 1, 2, 2]);
+    (0..count).map(|_| random.pick(numbers)).collect()
+}
+
 /// Puts a fault into the rows or the day. The numbers 1 to 4 are faults of the text instead.
 pub fn spoil_draft(number: u64, draft: &mut Draft, random: &mut Random) {
     match number {

@@ -1,5 +1,6 @@
-//! Cases made up from a seed: studies and checks of every size and with every refusal, releases,
-//! lone tests, and lines that can't be read. The case of a seed and an index is always the same.
+//! Cases made up from a seed: studies and checks of every size and with every refusal, files to be handed
+//! back tidy, releases, lone tests, and lines that can't be read. The case of a seed and an index is always
+//! the same.
 
 mod draft;
 mod faults;
@@ -8,13 +9,14 @@ mod parents;
 pub mod random;
 pub mod sheet;
 mod supply;
+mod tidy;
 
 use crate::answer::LONGEST;
 use crate::case::{Case, ThreeFiles, LONGEST_BUFFER};
 use crate::day::Day;
 use crate::rules::Files;
 use draft::Draft;
-use faults::{spoil_draft, spoil_sheet, NUMBERS};
+use faults::{make_faults, spoil_draft, spoil_sheet, NUMBERS};
 use random::Random;
 use sheet::{damage, disturb, Sheet, LARGEST_FILE};
 
@@ -40,7 +42,8 @@ impl Line {
 pub fn make(seed: u64, index: u64) -> Line {
     let random = &mut Random::of(seed, index);
     match random.between(0, 999) {
-        0..=779 => Line::of(make_study(random)),
+        0..=619 => Line::of(make_study(random)),
+        620..=779 => Line::of(tidy::make_tidy(random)),
         780..=839 => Line::of(make_check(random)),
         840..=909 => Line::of(lines::make_test(random)),
         910..=969 => Line::of(lines::make_release(random)),
@@ -50,7 +53,7 @@ pub fn make(seed: u64, index: u64) -> Line {
 
 /// A study: most accepted, some with one fault, some with two.
 fn make_study(random: &mut Random) -> Case {
-    let faults = make_faults(random);
+    let faults = make_faults(&NUMBERS, random);
     let (day, files) = make_files(&faults, random);
     let (files, parents) = split(files);
     let buffer = make_buffer(faults.contains(&10), &day, &files.beside(&parents), random);
@@ -59,7 +62,7 @@ fn make_study(random: &mut Random) -> Case {
 
 /// A check of files as a study has them.
 fn make_check(random: &mut Random) -> Case {
-    let faults = make_faults(random);
+    let faults = make_faults(&NUMBERS, random);
     let (_, files) = make_files(&faults, random);
     Case::Check { files: split(files).0 }
 }
@@ -74,12 +77,6 @@ const PARENTS: usize = 3;
 /// The files of a check, and the parents.
 fn split([constraint, supply, schedules, parents]: StudyFiles) -> (ThreeFiles, Vec<u8>) {
     (ThreeFiles([constraint, supply, schedules]), parents)
-}
-
-/// None, one or two numbers of refusals.
-fn make_faults(random: &mut Random) -> Vec<u64> {
-    let count = random.pick(&[0, 0, 0, 0, 0, 0, 1, 1, 1, 2, 2]);
-    (0..count).map(|_| random.pick(&NUMBERS)).collect()
 }
 
 /// The files with the faults in them, and the day.

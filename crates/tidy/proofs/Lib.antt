@@ -1,0 +1,13 @@
+pub mod Computed
+pub mod Computing
+pub mod CopyLaws
+pub mod EnoughRoom
+pub mod FileLaws
+pub mod HowLong
+pub mod LongestLaws
+pub mod LoopLaws
+pub mod PlainFiles
+pub mod RecordLaws
+pub mod ShownLaws
+pub mod TidyLaws
+pub mod TidyRows

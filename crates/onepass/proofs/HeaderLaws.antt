@@ -13,7 +13,7 @@ use Rattle.base.proofs.Tests.{lt-or-ge}
 use Rattle.csv.specs.Grammar.{Record}
 use Rattle.csv.specs.promises.Plain.{allText, allTexts}
 use Rattle.csv.proofs.Written.{inQuotes, quoted-field, sideBySide, fields-record}
-use Rattle.csv.specs.Bytes.{COMMA, CR, DQUOTE, LF}
+use Rattle.csv.specs.Bytes.{CR, DQUOTE, LF}
 use Rattle.tables.specs.Table.{header, joined, headerText, constraintColumns, supplyColumns, schedulesColumns, parentsColumns}
 use Rattle.tables.specs.declared.files.File.{File}
 use Rattle.tables.specs.declared.files.File.the-variants.{Constraint, Supply, Schedules, Parents}

@@ -1,6 +1,6 @@
 -- A file that is its header and then rows whose fields are well-formed is not refused, and its rows are those. Assumes nothing.
 use Prim.Native.Nat.{ℕ, suc, _≤_}
-use mathlib.Core.Path.{_≡_, refl, sym, _∙_, ap}
+use mathlib.Core.Path.{_≡_, refl, sym, ap}
 use mathlib.Core.Bool.{true, not}
 use mathlib.Core.List.{List, [], _∷_, _++_}
 use mathlib.Core.Option.{none}
@@ -11,7 +11,7 @@ use Rattle.base.specs.Search.{first, firstOf}
 use Rattle.base.proofs.Tests.{same-refl}
 use Rattle.csv.specs.Bytes.{CR, LF}
 use Rattle.csv.specs.Grammar.{Record, File as Grammar·File}
-use Rattle.csv.specs.Records.{rfc4180, records}
+use Rattle.csv.specs.Records.{records}
 use Rattle.csv.proofs.Decides.{file-read}
 use Rattle.csv.specs.promises.Plain.{allText, allTexts}
 use Rattle.csv.proofs.Written.{plainly, plain-field, sideBySide, fields-record}

@@ -10,7 +10,7 @@ use lib.ListN.{length, take, drop}
 use Rattle.csv.specs.Grammar.{NonEscaped, Field, Record}
 use Rattle.csv.specs.Bytes.{COMMA, CR, DQUOTE, LF}
 use Rattle.csv.specs.promises.Rows.{Breaks, Rows}
-use Rattle.tables.specs.Table.{Form, numeral, signed, letter, Column, table, header, width}
+use Rattle.tables.specs.Table.{Form, numeral, signed, letter, table, header, width}
 use Rattle.tables.proofs.ColumnLaws.{forms as allForms, minima as allMinima, maxima as allMaxima}
 use Rattle.tables.specs.promises.Laying.{FileRead}
 use Rattle.tables.specs.promises.RowCells.{CellsOf, RowsOf}

@@ -1,7 +1,6 @@
 -- A file without its quotes is its records, unquoted, where no value needs quotes. Assumes nothing.
 use Prim.Native.Nat.{ℕ, zero, suc, _+_, _-_, _≤_}
 use mathlib.Core.Path.{_≡_, refl, sym, _∙_, ap}
-use mathlib.Core.Logic.{⊎-elim}
 use mathlib.Core.Bool.{Bool, true, false, cond}
 use mathlib.Core.List.{List, [], _∷_, _++_, append-assoc, append-nil}
 use native.Mathlib.Omega.{arith}
@@ -11,7 +10,7 @@ use lib.Seq.{getD-append-add}
 use Rattle.base.specs.Search.{All, all-none, all-more}
 use Rattle.base.specs.Text.{together}
 use borrow.Author.Tests.{ne-eqb}
-use Rattle.base.proofs.Tests.{eq-or-ne, and-fst, and-snd, false-true}
+use Rattle.base.proofs.Tests.{and-fst, and-snd, false-true}
 use Rattle.csv.specs.Grammar.{TEXTDATA, NonEscaped, Opened, Escaped, Field, Record, File}
 use Rattle.csv.specs.Records.{textdata}
 use Rattle.csv.specs.Bytes.{COMMA, CR, DQUOTE, LF}
@@ -37,7 +36,7 @@ kept-short b = go (eqb b DQUOTE)
     go true = omega arith
     go false = omega arith
 
-unquoted-append : (a b : List ℕ) → unquoted (a ++ b) ≡ unquoted a ++ unquoted b
+pub unquoted-append : (a b : List ℕ) → unquoted (a ++ b) ≡ unquoted a ++ unquoted b
 unfolding unquoted together
 unquoted-append [] b = refl
 unquoted-append (x ∷ a) b = rw (unquoted-append a b) (sym (append-assoc (kept x) (unquoted a) (unquoted b)))
@@ -128,23 +127,6 @@ unfolding unquoted together
 unquoted-shorter [] = omega arith
 unquoted-shorter (b ∷ s) = omega (arith, length-append (kept b) (unquoted s), kept-short b, unquoted-shorter s)
 
--- where nothing is dropped, all is kept
-pub all-kept : (s : List ℕ) → length (unquoted s) ≡ length s → unquoted s ≡ s
-unfolding unquoted together
-all-kept [] e = refl
-all-kept (b ∷ s) e = ⊎-elim quote (other (all-kept s)) (eq-or-ne b DQUOTE)
-  where
-    length-is : length (kept b) + length (unquoted s) ≡ length (b ∷ s)
-    length-is = sym (length-append (kept b) (unquoted s)) ∙ e
-
-    quote : b ≡ DQUOTE → kept b ++ unquoted s ≡ b ∷ s
-    quote q = absurd (omega (arith, length-is, ap length (quote-dropped b q), unquoted-shorter s))
-
-    other : (length (unquoted s) ≡ length s → unquoted s ≡ s) → (b ≡ DQUOTE → ⊥) → kept b ++ unquoted s ≡ b ∷ s
-    other more n =
-        let rest : length (unquoted s) ≡ length s = omega (arith, length-is, ap length (byte-kept b n)) in
-        rw (byte-kept b n) (ap (λ l. b ∷ l) (more rest))
-
 pub copied-length : (s : List ℕ) → length (copied s) ≡ length (unquoted s) + length (lastEnd s)
 unfolding copied
 copied-length s = length-append (unquoted s) (lastEnd s)
@@ -186,7 +168,7 @@ line-end-kept : (l : List ℕ) → unquoted (CR ∷ LF ∷ l) ≡ CR ∷ LF ∷ 
 unfolding unquoted together kept
 line-end-kept l = refl
 
-no-more : unquoted [] ≡ []
+pub no-more : unquoted [] ≡ []
 unfolding unquoted together
 no-more = refl
 

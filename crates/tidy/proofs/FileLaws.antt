@@ -1,11 +1,11 @@
 -- Laws of the three calls, one for each way through the code: what reading refuses, and what is copied. Assumes nothing.
-use Prim.Native.Nat.{ℕ, _≤_, _<_}
+use Prim.Native.Nat.{ℕ}
 use mathlib.Core.Path.{_≡_, refl, sym, _∙_}
+use mathlib.Core.Bool.{true, false}
 use mathlib.Core.List.{List, [], _∷_}
 use mathlib.Core.Option.{Option, none, some}
 use lib.Dec.{leb}
 use lib.ListN.{length}
-use borrow.Author.Tests.{le-leb, lt-leb}
 use Rattle.base.specs.Search.{firstOf}
 use Rattle.base.specs.Text.{written}
 use Rattle.base.specs.promises.Writing.{Wrote}
@@ -43,16 +43,18 @@ module _ (text buffer : List ℕ) where
   unfolding tidying
   refused-tidying e = rw e (record { tells = refl; counts = refl; bytes = refl })
 
-  pub short-buffer : length buffer < length text → Tidies (tidying text buffer (shortForTidy text (length buffer))) buffer (Refused (bareRefusal 30))
+  pub short-buffer :
+      leb (length text) (length buffer) ≡ false →
+      Tidies (tidying text buffer (shortForTidy text (length buffer))) buffer (Refused (bareRefusal 30))
   unfolding shortForTidy
-  short-buffer h = refused-tidying (unless-broken _ 30 (lt-leb (length text) (length buffer) h))
+  short-buffer e = refused-tidying (unless-broken _ 30 e)
 
   pub text-written :
-      length text ≤ length buffer → {count : ℕ} {new : List ℕ} → Wrote text count buffer new →
+      leb (length text) (length buffer) ≡ true → {count : ℕ} {new : List ℕ} → Wrote text count buffer new →
       Tidies (tidying text buffer (shortForTidy text (length buffer))) new (Written count)
   unfolding shortForTidy tidying written
-  text-written h w =
-      rw (unless-kept (leb (length text) (length buffer)) 30 (le-leb (length text) (length buffer) h))
+  text-written e w =
+      rw (unless-kept (leb (length text) (length buffer)) 30 e)
       (record { tells = refl; counts = w .counted; bytes = w .written })
 
 -- a file

@@ -4,6 +4,7 @@ pub mod CopyLaws
 pub mod EnoughRoom
 pub mod FileLaws
 pub mod HowLong
+pub mod LineLaws
 pub mod LongestLaws
 pub mod LoopLaws
 pub mod PlainFiles

@@ -1,4 +1,4 @@
--- The loops of counting and of copying the bytes of a text that are no quotes. Assumes nothing.
+-- The loops of counting and of storing the bytes of a text that are no quotes. Assumes nothing.
 use Prim.Native.Nat.{ℕ, _+_, _≤_, _<_}
 use mathlib.Core.Path.{_≡_, refl, ap}
 use mathlib.Core.Bool.{Bool, true, false, cond, not}
@@ -7,9 +7,8 @@ use native.Mathlib.Omega.{arith}
 use lib.Dec.{eqb}
 use lib.ListN.{length, getD, set}
 use mir.Val.{boolByte}
-use Rattle.base.specs.promises.Writing.{Wrote}
 use Rattle.base.proofs.Lists.{drop-next}
-use Rattle.base.proofs.Together.{Counting, count-next, count-over, Writing, writing-room, writing-nothing, writing-byte, writing-over}
+use Rattle.base.proofs.Together.{Counting, count-next, count-over, Writing, writing-room, writing-nothing, writing-byte}
 use Rattle.csv.specs.Bytes.{DQUOTE}
 use Rattle.tidy.specs.promises.Copying.{kept, unquoted}
 use Rattle.tidy.proofs.CopyLaws.{quote-dropped, byte-kept, kept-short}
@@ -56,8 +55,3 @@ module _ (s : List ℕ) where
         Writing kept s old (i + 1) at new
     unfolding unquoted
     quote-passed {i} h e w = writing-nothing kept s old fits (drop-next 0 i s h) (quote-dropped (getD s i 0) e) w
-
-  pub all-written :
-      {old new : List ℕ} {i at : ℕ} → length s ≤ i → Writing kept s old i at new → Wrote (unquoted s) at old new
-  unfolding unquoted
-  all-written h w = writing-over kept s h w

@@ -1,10 +1,11 @@
-// A file without its quotes, copied into a lent buffer. Assumes nothing of the bytes.
+// A file without its quotes, copied line by line, each next line into the rest of the lent buffer. A file that is not
+// refused has no line end inside a field, so its lines are its records. Assumes nothing of the bytes.
 ghost use mathlib.Core.Path.{_≡_};
 ghost use Prim.Native.Nat.{_-_, _≤_};
-ghost use lib.Dec.{eqb};
+ghost use lib.Dec.{eqb, leb};
 ghost use lib.ListN.{length, getD};
 ghost use Rattle.base.specs.promises.Writing.{Wrote};
-ghost use Rattle.tidy.specs.promises.Copying.{unquoted, lastEnd};
+ghost use Rattle.tidy.specs.promises.Copying.{unquoted, lastEnd, copied, LineWritten};
 ghost use Rattle.tidy.specs.promises.Tidies.{Copies};
 use tables::Refusal;
 
@@ -21,22 +22,35 @@ pub enum Tidy {
     Refused(Refusal),
 }
 
-// Copies `s` without its quotes, with a CR LF behind the last record too, unless the buffer is too short.
+// A line that was written: how many bytes of the text it takes, and how many of the buffer.
+struct Line {
+    read: usize,
+    written: usize,
+}
+
+// Copies `s` without its quotes, with a CR LF behind the last line too, unless the buffer is too short.
 pub fn copy_file(s: &[u8], out: &mut [u8]) -> Tidy
     ensures { λ r. ⌜ Copies (now (s .entry)) (now (out .entry)) (now (out .exit)) r ⌝ }
 {
-    let kept = unquoted_length(s);
-    let needed = kept + last_end_length(s);
-    if out.len() < needed {
+    if !fits(s, out.len()) {
         return Tidy::Refused(Refusal {
             number: SHORT_FOR_TIDY,
             file: 0,
             place: 0,
         });
     }
-    let mut at = copy_kept(s, kept, out);
-    at += write_last_end(s, &mut out[at..]);
-    Tidy::Written(at)
+    Tidy::Written(write_file(s, out))
+}
+
+// Whether the copy of `s` has room in so many bytes. Quotes are counted only where they decide that.
+fn fits(s: &[u8], room: usize) -> bool
+    ensures { λ r. ⌜ r ≡ leb (length (copied (now (s .entry)))) room ⌝ }
+{
+    let end = last_end_length(s);
+    if s.len() + end <= room {
+        return true;
+    }
+    unquoted_length(s) + end <= room
 }
 
 fn unquoted_length(s: &[u8]) -> usize
@@ -51,21 +65,34 @@ fn unquoted_length(s: &[u8]) -> usize
     count
 }
 
-// Copies what is left of `s` without its quotes, so many bytes; all of it at once where that is all of it.
-fn copy_kept(s: &[u8], kept: usize, out: &mut [u8]) -> usize
-    requires { ⌜ kept ≡ length (unquoted (now s)) ⌝ }
-    requires { ⌜ kept ≤ length (now out) ⌝ }
-    ensures { λ r. ⌜ Wrote (unquoted (now (s .entry))) r (now (out .entry)) (now (out .exit)) ⌝ }
+fn write_file(s: &[u8], out: &mut [u8]) -> usize
+    requires { ⌜ length (copied (now s)) ≤ length (now out) ⌝ }
+    ensures { λ r. ⌜ Wrote (copied (now (s .entry))) r (now (out .entry)) (now (out .exit)) ⌝ }
 {
-    if kept == s.len() {
-        return bytes::copy(s, out);
-    }
-    copy_unquoted(s, out)
+    let mut at = write_lines(s, out);
+    at += write_last_end(s, &mut out[at..]);
+    at
 }
 
-fn copy_unquoted(s: &[u8], out: &mut [u8]) -> usize
+fn write_lines(s: &[u8], out: &mut [u8]) -> usize
     requires { ⌜ length (unquoted (now s)) ≤ length (now out) ⌝ }
     ensures { λ r. ⌜ Wrote (unquoted (now (s .entry))) r (now (out .entry)) (now (out .exit)) ⌝ }
+{
+    let mut at = 0;
+    let mut rest = s;
+    while 0 < rest.len() {
+        let line = write_line(rest, &mut out[at..]);
+        at += line.written;
+        let next = line.read;
+        rest = &rest[next..];
+    }
+    at
+}
+
+// The first line of `s` without its quotes.
+fn write_line(s: &[u8], out: &mut [u8]) -> Line
+    requires { ⌜ length (unquoted (now s)) ≤ length (now out) ⌝ }
+    ensures { λ r. ⌜ LineWritten (now (s .entry)) (now (out .entry)) (now (out .exit)) (r .read) (r .written) ⌝ }
 {
     let mut at = 0;
     let mut i = 0;
@@ -76,8 +103,17 @@ fn copy_unquoted(s: &[u8], out: &mut [u8]) -> usize
             at += 1;
         }
         i += 1;
+        if b == LF {
+            return Line {
+                read: i,
+                written: at,
+            };
+        }
     }
-    at
+    Line {
+        read: i,
+        written: at,
+    }
 }
 
 fn last_end_length(s: &[u8]) -> usize

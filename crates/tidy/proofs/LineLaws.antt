@@ -71,6 +71,14 @@ pub line-written :
 unfolding unquoted
 line-written w e = record { first = e; wrote = w .wrote }
 
+module _ {s old new : List ℕ} {n k : ℕ} (line : LineWritten s old new n k) where
+  pub line-read : n ≤ length s
+  line-read = omega (arith, line .first, line-within s)
+
+  -- what is left gets shorter
+  pub line-fewer : 0 < length s → length (take (length s - n) (drop n s)) < length s
+  line-fewer h = rw (rest-lent n s) (omega (arith, length-drop n s, line .first, line-some s h))
+
 -- the lines before the rest stand at the start of the buffer
 pub record Lines (s old rest : List ℕ) (at : ℕ) (new : List ℕ) : Type 0 where
   pub text : List ℕ
@@ -118,10 +126,3 @@ module _ {s old rest new : List ℕ} {at : ℕ} (l : Lines s old rest at new) wh
             wrote = wrote;
             same-length = wrote-length wrote (omega (arith, line-room, wrote .counted, l .same-length));
           })
-
-      pub line-read : n ≤ length rest
-      line-read = omega (arith, line .first, line-within rest)
-
-      -- what is left gets shorter
-      pub lines-fewer : 0 < length rest → length (take (length rest - n) (drop n rest)) < length rest
-      lines-fewer h = rw (rest-lent n rest) (omega (arith, length-drop n rest, line .first, line-some rest h))

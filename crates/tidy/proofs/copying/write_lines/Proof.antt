@@ -2,7 +2,7 @@
 use native.Mathlib.Omega.{arith}
 use lib.ListN.{length, length-drop}
 use Rattle.base.proofs.Lists.{rest-lent}
-use Rattle.tidy.proofs.LineLaws.{Lines, lines-none, lines-room, line-room, line-read, lines-next, lines-fewer, lines-over}
+use Rattle.tidy.proofs.LineLaws.{Lines, lines-none, line-read, line-fewer, lines-room, line-room, lines-next, lines-over}
 use Rattle.tidy.proofs.copying.write_lines.Statement.{statement}
 use Rattle.tidy.proofs.copying.write_lines.Tie as tie
 
@@ -40,25 +40,16 @@ add-at c =
     omega (arith, line-room (now .loop .inv) (now .before .before .before .pre) (written .write-line .ensures))
 
 sub-rest : tie.Need-sub-rest Inv-loop μ-loop
-sub-rest c =
-    let written = c .before .before .before in
-    let now = written .before .before .before in
-    omega (arith, line-read (now .loop .inv) (now .before .before .before .pre) (written .write-line .ensures))
+sub-rest c = omega (arith, line-read (c .before .before .before .write-line .ensures))
 
 part-rest-start : tie.Need-part-rest-start Inv-loop μ-loop
-part-rest-start c =
-    let written = c .before .before .before in
-    let now = written .before .before .before in
-    omega (arith, line-read (now .loop .inv) (now .before .before .before .pre) (written .write-line .ensures))
+part-rest-start c = omega (arith, line-read (c .before .before .before .write-line .ensures))
 
 part-rest-end : tie.Need-part-rest-end Inv-loop μ-loop
 part-rest-end c = omega arith
 
 loop-less : tie.Need-loop-less Inv-loop μ-loop
-loop-less c =
-    let written = c .before .before .before .before in
-    let now = written .before .before .before in
-    lines-fewer (now .loop .inv) (now .before .before .before .pre) (written .write-line .ensures) (omega arith)
+loop-less c = line-fewer (c .before .before .before .before .write-line .ensures) (omega arith)
 
 loop-again : tie.Need-loop-again Inv-loop μ-loop
 loop-again c =

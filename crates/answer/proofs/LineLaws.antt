@@ -11,7 +11,7 @@ use Rattle.cells.specs.promises.Letters.{Lettered}
 use Rattle.cells.specs.promises.Views.{answerRows, answerAt}
 use Rattle.outcome.specs.Answer.{CRLF, line}
 use Rattle.answer.specs.promises.Parts.{numberField, letterField, lastField, idsPart, testPart, schedulePart}
-use Rattle.tables.specs.Rows.{AnswerRow}
+use Rattle.tables.specs.declared.answer.AnswerRow.{AnswerRow}
 use Rattle.csv.specs.Bytes.{COMMA}
 
 regroup :

@@ -11,7 +11,8 @@ use lib.ListN.{length, getD, take, drop, length-append, length-drop, length-map,
 use lib.Seq.{take-at, drop-at, getD-take, length-take-le}
 use Rattle.base.specs.Search.{find}
 use Rattle.base.proofs.Lists.{drop-next, drop-end, rest-lent, rest-back}
-use Rattle.tables.specs.Rows.{ScheduleRow, AnswerRow}
+use Rattle.tables.specs.Rows.{ScheduleRow}
+use Rattle.tables.specs.declared.answer.AnswerRow.{AnswerRow}
 use Rattle.tables.specs.declared.files.Kind.{Kind}
 use Rattle.tables.specs.promises.FlatRows.{rowsOf}
 use Rattle.schedules.specs.Schedules.{own}

@@ -13,7 +13,8 @@ use Rattle.base.proofs.FirstLaws.{first-of-between, first-of-parts-none}
 use Rattle.base.proofs.Searches.{first-of-none}
 use Rattle.base.proofs.Tests.{eq-or-ne}
 use Rattle.tables.specs.promises.Ranges.{PermittedSupply}
-use Rattle.tables.specs.Rows.{SupplyRow, AnswerRow}
+use Rattle.tables.specs.Rows.{SupplyRow}
+use Rattle.tables.specs.declared.answer.AnswerRow.{AnswerRow}
 use Rattle.tables.specs.declared.constraint.ConstraintRow.{ConstraintRow}
 use Rattle.tables.specs.declared.files.File.the-variants.{Parents}
 use Rattle.tables.specs.declared.files.Reading.{Reading}

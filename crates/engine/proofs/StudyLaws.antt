@@ -13,7 +13,7 @@ use Rattle.base.specs.Text.{written}
 use Rattle.base.specs.promises.Writing.{Wrote}
 use Rattle.tables.specs.declared.files.Refusal.{Refusal}
 use Rattle.tables.specs.Refusals.{bareRefusal}
-use Rattle.tables.specs.Rows.{AnswerRow}
+use Rattle.tables.specs.declared.answer.AnswerRow.{AnswerRow}
 use Rattle.checking.specs.Files.{Files, constraintOf}
 use Rattle.outcome.specs.Answer.{answerText}
 use Rattle.outcome.specs.Day.{putAll, committed}

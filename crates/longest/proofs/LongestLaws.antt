@@ -6,7 +6,7 @@ use lib.ListN.{length, replicate, length-append}
 use Rattle.base.specs.Search.{All, all-none, all-more}
 use Rattle.base.specs.Text.{together}
 use Rattle.numeral.proofs.Laws.{length-longer}
-use Rattle.tables.specs.Rows.{AnswerRow}
+use Rattle.tables.specs.declared.answer.AnswerRow.{AnswerRow}
 use Rattle.supply.specs.Supply.{mostUnits}
 use Rattle.outcome.specs.Answer.{line, answerText}
 use Rattle.outcome.proofs.TextLengths.{line-length, text-length}

@@ -12,7 +12,8 @@ use Rattle.base.specs.Search.{All}
 use Rattle.base.proofs.Elements.{all-mem}
 use Rattle.base.proofs.Tests.{eq-or-ne, lt-or-ge}
 use Rattle.tables.specs.promises.Ranges.{PermittedSupply, PermittedSchedule}
-use Rattle.tables.specs.Rows.{SupplyRow, ScheduleRow, AnswerRow}
+use Rattle.tables.specs.Rows.{SupplyRow, ScheduleRow}
+use Rattle.tables.specs.declared.answer.AnswerRow.{AnswerRow}
 use Rattle.tables.specs.declared.constraint.ConstraintRow.{ConstraintRow}
 use Rattle.tables.specs.Table.{table}
 use Rattle.tables.specs.declared.files.File.the-variants.{Supply}
@@ -28,9 +29,9 @@ use Rattle.choice.specs.Schedules.{isRunning as runs}
 use Rattle.choice.specs.declared.choices.Choice.{Choice}
 use Rattle.outcome.specs.Day.{RunningUnit, DayView, kindRunning}
 use Rattle.outcome.specs.Decision.{unitRow, cleared}
-use Rattle.outcome.specs.Right.{RightTest, RightSchedule}
+use Rattle.outcome.specs.Right.{RightTest, RightSchedule, RightOf}
 use Rattle.outcome.specs.Study.{studyRows, answerFile, decisionRefusal}
-use Rattle.outcome.proofs.RowLaws.{RightOf, row-right}
+use Rattle.outcome.proofs.RowLaws.{row-right}
 use Rattle.outcome.proofs.RowRanges.{row-permitted}
 use Rattle.outcome.proofs.RowsToBytes.{studyRow, study-row-unit}
 use Rattle.outcome.proofs.Sound.{files-kept, groups-units, groups-permitted, sound, some-need}
@@ -89,7 +90,7 @@ module _ (d : DayView) (f : Files) (e : decisionRefusal d f ≡ none) where
   unfolding groupsOf grouped
   groups-most = rw (length-map (supplyOf (f .supply)) (inPlace (head (parentsOf (f .parents))))) (files-kept d f e .supply-few)
 
-  right-ranged : (r : AnswerRow) → Among (r .unit) (units (supplyOf (f .supply))) → RightOf d f e r → Ranged r
+  right-ranged : (r : AnswerRow) → Among (r .unit) (units (supplyOf (f .supply))) → RightOf d f r → Ranged r
   right-ranged r m t =
       let k = files-kept d f e in
       let w = unitRow (supplyOf (f .supply)) (r .unit) in

@@ -4,7 +4,7 @@ use Prim.Native.Nat.{ℕ, suc, _+_, _*_}
 use lib.ListN.{length, replicate}
 use Rattle.hours.specs.Hours.{lastHour}
 use Rattle.tables.specs.Table.{table, C, highestSupplier, highestCost}
-use Rattle.tables.specs.Rows.{AnswerRow}
+use Rattle.tables.specs.declared.answer.AnswerRow.{AnswerRow}
 use Rattle.tables.specs.declared.files.File.the-variants.{Supply}
 use Rattle.supply.specs.Supply.{mostUnits}
 use Rattle.pivotal.specs.Test.{F, verdictLetter}

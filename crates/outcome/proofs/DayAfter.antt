@@ -10,7 +10,8 @@ use lib.ListN.{length}
 use borrow.Author.Tests.{leb-true}
 use Rattle.base.specs.Rising.{RisingFrom, among}
 use Rattle.base.proofs.Elements.{all-of, mem-map, map-mem}
-use Rattle.tables.specs.Rows.{SupplyRow, AnswerRow}
+use Rattle.tables.specs.Rows.{SupplyRow}
+use Rattle.tables.specs.declared.answer.AnswerRow.{AnswerRow}
 use Rattle.checking.specs.Files.{Files, constraintOf, supplyOf}
 use Rattle.supply.specs.Supply.{units}
 use Rattle.outcome.specs.Day.{RunningUnit, DayView, mostRunning, unitInRange, dayFormed, wouldRun, committed}

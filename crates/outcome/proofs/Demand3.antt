@@ -9,17 +9,17 @@ use Rattle.base.specs.Search.{All}
 use Rattle.checking.specs.Files.{Files, supplyOf}
 use Rattle.outcome.specs.Answer.{answerText}
 use Rattle.outcome.specs.Day.{DayView}
-use Rattle.outcome.specs.Right.{RowPerUnit, Right}
+use Rattle.outcome.specs.Right.{RowPerUnit, RightOf, Right}
 use Rattle.outcome.specs.Study.{studyRows, answerFile, decisionRefusal}
-use Rattle.outcome.proofs.RowLaws.{RightOf, row-right, row-decided}
+use Rattle.outcome.proofs.RowLaws.{row-right, row-decided}
 use Rattle.outcome.proofs.RowsToBytes.{study-rows, rows-right, rows-only}
 use Rattle.outcome.proofs.Sound.{units-rise}
 
 -- the rows of a study are right
 pub study-right :
     (d : DayView) (f : Files) (e : decisionRefusal d f ≡ none) →
-    RowPerUnit (supplyOf (f .supply)) (studyRows d f) × All (RightOf d f e) (studyRows d f)
-study-right d f e = rw (study-rows d f) (rows-right d f (units-rise d f e) (RightOf d f e) (row-right d f e))
+    RowPerUnit (supplyOf (f .supply)) (studyRows d f) × All (RightOf d f) (studyRows d f)
+study-right d f e = rw (study-rows d f) (rows-right d f (units-rise d f e) (RightOf d f) (row-right d f e))
 
 pub demand-3 :
     (d : DayView) (f : Files) → decisionRefusal d f ≡ none → (text : List ℕ) →
@@ -41,4 +41,4 @@ demand-3 d f e text = (right, only)
     only r =
         r .in-layout
         ∙ ap answerText
-        (rows-only d f (units-rise d f e) (RightOf d f e) (row-decided d f e) (r .rows) (r .per-unit) (r .every-row) ∙ sym (study-rows d f))
+        (rows-only d f (units-rise d f e) (RightOf d f) (row-decided d f e) (r .rows) (r .per-unit) (r .every-row) ∙ sym (study-rows d f))

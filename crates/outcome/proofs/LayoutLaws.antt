@@ -8,7 +8,7 @@ use Rattle.numeral.specs.Numeral.{digits}
 use Rattle.numeral.proofs.Laws.{numeral-digits, digits-numeral}
 use Rattle.outcome.specs.Answer.{line, answerText}
 use Rattle.outcome.specs.Layout.{Line, Lines, InLayout, Lines.end, Lines.next}
-use Rattle.tables.specs.Rows.{AnswerRow}
+use Rattle.tables.specs.declared.answer.AnswerRow.{AnswerRow}
 
 -- a row's record
 line-text : {r : AnswerRow} {text : List ℕ} → Line r text → text ≡ line r

@@ -17,7 +17,7 @@ use Rattle.tables.specs.Refusals.{refused, bareRefusal, unless, told}
 use Rattle.tables.specs.declared.files.File.{File}
 use Rattle.tables.specs.declared.files.File.the-variants.{Constraint, Supply, Schedules, Parents}
 use Rattle.tables.specs.declared.files.Refusal.{Refusal}
-use Rattle.tables.specs.Rows.{AnswerRow}
+use Rattle.tables.specs.declared.answer.AnswerRow.{AnswerRow}
 use Rattle.checking.specs.Files.{Files, affiliateRefusals, aloneRefusals, marketRefusals, schedulesRefusals, unitsRefusals, besideRefusals, checkRefusals, constraintOf, supplyOf, schedulesOf, parentsOf, orHeader}
 use Rattle.outcome.specs.Day.{DayView, dayFormed, runs, releaseRefusal, earlier, wouldRun, mostRunning}
 use Rattle.outcome.specs.Study.{outcome, tooManyRunning, shortBuffer, rowsRefusals, decisionRefusals, decisionRefusal, studyRefusals, studyRefusal, studied, studyRows}

@@ -4,7 +4,8 @@ use mathlib.Core.Path.{_≡_, refl}
 use mathlib.Core.List.{List, List·Memᴰ as Among}
 use mathlib.Core.Option.{none}
 use native.Mathlib.Omega.{arith}
-use Rattle.tables.specs.Rows.{SupplyRow, ScheduleRow, AnswerRow}
+use Rattle.tables.specs.Rows.{SupplyRow, ScheduleRow}
+use Rattle.tables.specs.declared.answer.AnswerRow.{AnswerRow}
 use Rattle.tables.specs.declared.constraint.ConstraintRow.{ConstraintRow}
 use Rattle.checking.specs.Files.{Files, constraintOf, supplyOf, schedulesOf, groupsOf}
 use Rattle.supply.specs.Supply.{units, supplyAtOdds}
@@ -12,7 +13,7 @@ use Rattle.market.specs.Parties.{party}
 use Rattle.market.specs.Removals.{PartyOf}
 use Rattle.outcome.specs.Day.{RunningUnit, DayView}
 use Rattle.outcome.specs.Decision.{unitRow, chosenOr, choiceOf, decidedRow}
-use Rattle.outcome.specs.Right.{RightRow}
+use Rattle.outcome.specs.Right.{RightRow, RightOf}
 use Rattle.outcome.specs.Study.{decisionRefusal}
 use Rattle.outcome.proofs.ScheduleRight.{schedule-right, shownBy, schedule-only}
 use Rattle.outcome.proofs.RowsToBytes.{studyRow}
@@ -57,17 +58,13 @@ module _
         rw (chosen, ← verdict, ← left, ← supplier, ← (t .schedule .kind-shown))
 
 module _ (d : DayView) (f : Files) (e : decisionRefusal d f ≡ none) where
-  -- demand 3 on a row of the study's answer, and the row that the study decides
-  abbrev pub RightOf : AnswerRow → Type 0
-  RightOf = RightRow (constraintOf (f .constraint)) (groupsOf f) (schedulesOf (f .schedules)) (d .running) (supplyOf (f .supply))
-
-  pub row-right : (u : ℕ) → Among u (units (supplyOf (f .supply))) → RightOf (studyRow d f u)
+  pub row-right : (u : ℕ) → Among u (units (supplyOf (f .supply))) → RightOf d f (studyRow d f u)
   row-right =
       right (constraintOf (f .constraint)) (groupsOf f) (schedulesOf (f .schedules)) (d .running) (sound d f e)
       (supplyOf (f .supply)) (files-kept d f e .supply-agrees) (groups-units d f e)
 
   pub row-decided :
-      (r : AnswerRow) → Among (r .unit) (units (supplyOf (f .supply))) → RightOf r → r ≡ studyRow d f (r .unit)
+      (r : AnswerRow) → Among (r .unit) (units (supplyOf (f .supply))) → RightOf d f r → r ≡ studyRow d f (r .unit)
   row-decided =
       only (constraintOf (f .constraint)) (groupsOf f) (schedulesOf (f .schedules)) (d .running) (sound d f e)
       (supplyOf (f .supply)) (files-kept d f e .supply-agrees) (groups-units d f e)

@@ -8,7 +8,8 @@ use native.Mathlib.Omega.{arith}
 use Rattle.base.specs.Search.{All}
 use Rattle.base.proofs.Elements.{all-mem, all-those, those-mem}
 use Rattle.tables.specs.promises.Ranges.{PermittedSchedule}
-use Rattle.tables.specs.Rows.{SupplyRow, ScheduleRow, AnswerRow}
+use Rattle.tables.specs.Rows.{SupplyRow, ScheduleRow}
+use Rattle.tables.specs.declared.answer.AnswerRow.{AnswerRow}
 use Rattle.tables.specs.declared.constraint.ConstraintRow.{ConstraintRow}
 use Rattle.checking.specs.Files.{Files}
 use Rattle.schedules.specs.Schedules.{own}

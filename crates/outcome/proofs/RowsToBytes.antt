@@ -6,7 +6,8 @@ use mathlib.Core.List.{List, [], _∷_, map, List·Memᴰ as Among, Memᴰ·map 
 use Rattle.base.specs.Rising.{RisingFrom}
 use Rattle.base.specs.Search.{All, all-none, all-more}
 use Rattle.base.proofs.Elements.{all-mem, all-of}
-use Rattle.tables.specs.Rows.{SupplyRow, ScheduleRow, AnswerRow}
+use Rattle.tables.specs.Rows.{SupplyRow, ScheduleRow}
+use Rattle.tables.specs.declared.answer.AnswerRow.{AnswerRow}
 use Rattle.tables.specs.declared.constraint.ConstraintRow.{ConstraintRow}
 use Rattle.supply.specs.Supply.{units}
 use Rattle.affiliates.proofs.GroupLaws.{grouped-units}

@@ -9,7 +9,7 @@ use Rattle.supply.specs.Supply.{units}
 use Rattle.outcome.specs.Day.{DayView}
 use Rattle.outcome.specs.Study.{studyRows}
 use Rattle.outcome.proofs.RowsToBytes.{studyRow, study-rows}
-use Rattle.tables.specs.Rows.{AnswerRow}
+use Rattle.tables.specs.declared.answer.AnswerRow.{AnswerRow}
 
 pub all-map :
     {A B : Type 0} {P : B → Type 0} (f : A → B) (xs : List A) → ((x : A) → Among x xs → P (f x)) → All P (map f xs)

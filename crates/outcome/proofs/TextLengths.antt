@@ -6,7 +6,7 @@ use native.Mathlib.Omega.{arith}
 use lib.ListN.{length, length-append}
 use Rattle.base.specs.Text.{together}
 use Rattle.numeral.specs.Numeral.{digits}
-use Rattle.tables.specs.Rows.{AnswerRow}
+use Rattle.tables.specs.declared.answer.AnswerRow.{AnswerRow}
 use Rattle.csv.specs.Bytes.{COMMA}
 use Rattle.outcome.specs.Answer.{CRLF, answerHeader, line, answerText}
 

@@ -5,7 +5,7 @@ use Prim.Native.Nat.{ℕ}
 use mathlib.Core.List.{List, [], _∷_, _++_}
 use Rattle.base.specs.Text.{bytes, together}
 use Rattle.numeral.specs.Numeral.{digits}
-use Rattle.tables.specs.Rows.{AnswerRow}
+use Rattle.tables.specs.declared.answer.AnswerRow.{AnswerRow}
 use Rattle.csv.specs.Bytes.{COMMA, CR, LF}
 
 -- what ends a record

@@ -9,7 +9,8 @@ use mathlib.Core.Option.{Option, Option·getD}
 use lib.Dec.{eqb}
 use Rattle.base.specs.Search.{any, find}
 use Rattle.numbers.specs.Numbers.{placeOf}
-use Rattle.tables.specs.Rows.{SupplyRow, ScheduleRow, letterOf, AnswerRow}
+use Rattle.tables.specs.Rows.{SupplyRow, ScheduleRow, letterOf}
+use Rattle.tables.specs.declared.answer.AnswerRow.{AnswerRow}
 use Rattle.tables.specs.declared.constraint.ConstraintRow.{ConstraintRow}
 use Rattle.tables.specs.declared.files.Kind.the-variants.{C}
 use Rattle.supply.specs.Supply.{units}

@@ -5,7 +5,7 @@ use mathlib.Core.Path.{_≡_}
 use mathlib.Core.List.{List, [], _∷_, _++_}
 use Rattle.csv.specs.Bytes.{COMMA}
 use Rattle.numeral.specs.Grammar.{Numeral}
-use Rattle.tables.specs.Rows.{AnswerRow}
+use Rattle.tables.specs.declared.answer.AnswerRow.{AnswerRow}
 use Rattle.outcome.specs.Answer.{answerHeader, CRLF}
 
 -- a row's record, in numerals as the files have them

@@ -10,7 +10,8 @@ use mathlib.Core.Bool.{Bool, true}
 use mathlib.Core.List.{List, map, List·Memᴰ as Among}
 use Rattle.base.specs.Rising.{RisingFrom}
 use Rattle.base.specs.Search.{All}
-use Rattle.tables.specs.Rows.{SupplyRow, ScheduleRow, letterOf, AnswerRow}
+use Rattle.tables.specs.Rows.{SupplyRow, ScheduleRow, letterOf}
+use Rattle.tables.specs.declared.answer.AnswerRow.{AnswerRow}
 use Rattle.tables.specs.declared.constraint.ConstraintRow.{ConstraintRow}
 use Rattle.tables.specs.declared.files.Kind.{Kind}
 use Rattle.checking.specs.Files.{Files, constraintOf, supplyOf, schedulesOf, groupsOf}
@@ -99,13 +100,15 @@ module _ (c : ConstraintRow) (supply : List SupplyRow) where
     pub tested : (w : SupplyRow) → RowOf supply (r .unit) w → RightTest (party w) (r .verdict) (r .left)
     pub schedule : RightSchedule scheduled running r
 
+-- demand 3 on one row of a study's answer
+abbrev pub RightOf : DayView → Files → AnswerRow → Type 0
+RightOf d f =
+    RightRow (constraintOf (f .constraint)) (groupsOf f) (schedulesOf (f .schedules)) (d .running) (supplyOf (f .supply))
+
 -- demand 3
 pub record Right (d : DayView) (f : Files) (text : List ℕ) : Type 0 where
   pub rows : List AnswerRow
   -- "those bytes are in the fixed layout"
   pub in-layout : text ≡ answerText rows
   pub per-unit : RowPerUnit (supplyOf (f .supply)) rows
-  pub every-row :
-      All
-      (RightRow (constraintOf (f .constraint)) (groupsOf f) (schedulesOf (f .schedules)) (d .running) (supplyOf (f .supply)))
-      rows
+  pub every-row : All (RightOf d f) rows

@@ -33,16 +33,6 @@ pub record ParentRow : Type 0 where
   pub supplier : ℕ
   pub parent : ℕ
 
--- a row of the answer, with verdict and kind as their letters
-pub record AnswerRow : Type 0 where
-  pub unit : ℕ
-  pub supplier : ℕ
-  pub verdict : ℕ
-  pub left : ℕ
-  pub schedule : ℕ
-  pub kind : ℕ
-  pub cost : ℕ
-
 abbrev pub constraintRow : List ℕ → ConstraintRow
 constraintRow cs = record { hour = getD cs 0 0; relief = getD cs 1 0; cutoff = getD cs 2 0 }
 

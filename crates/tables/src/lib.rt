@@ -1,5 +1,6 @@
 // The one fixed table of the files, and one reader for every file: from bytes to rows of cells, or
 // the first refusal. Assumes nothing of the bytes.
+mod answer;
 mod columns;
 mod constraint;
 mod files;
@@ -9,6 +10,7 @@ mod ranges;
 mod reading;
 mod rows;
 
+pub use answer::AnswerRow;
 pub use columns::FORM;
 pub use columns::MAXIMUM;
 pub use columns::MINIMUM;

@@ -4,7 +4,7 @@ use mathlib.Core.Path.{_≡_}
 use lib.ListN.{length}
 use Rattle.numeral.specs.Numeral.{digits}
 use Rattle.outcome.specs.Answer.{line}
-use Rattle.tables.specs.Rows.{AnswerRow}
+use Rattle.tables.specs.declared.answer.AnswerRow.{AnswerRow}
 
 -- the digits of a number of 64 bits, at most
 abbrev pub mostDigits : ℕ

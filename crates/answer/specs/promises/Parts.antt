@@ -3,7 +3,7 @@ use Prim.Native.Nat.{ℕ}
 use mathlib.Core.List.{List, [], _∷_, _++_}
 use Rattle.numeral.specs.Numeral.{digits}
 use Rattle.outcome.specs.Answer.{CRLF}
-use Rattle.tables.specs.Rows.{AnswerRow}
+use Rattle.tables.specs.declared.answer.AnswerRow.{AnswerRow}
 use Rattle.csv.specs.Bytes.{COMMA}
 
 -- a number and the comma behind it

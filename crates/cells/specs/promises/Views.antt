@@ -3,7 +3,8 @@
 use Prim.Native.Nat.{ℕ, _+_, _*_}
 use mathlib.Core.List.{List, map}
 use lib.ListN.{getD}
-use Rattle.tables.specs.Rows.{SupplyRow, ScheduleRow, ParentRow, AnswerRow}
+use Rattle.tables.specs.Rows.{SupplyRow, ScheduleRow, ParentRow}
+use Rattle.tables.specs.declared.answer.AnswerRow.{AnswerRow}
 use Rattle.tables.specs.promises.FlatRows.{rowsOf}
 
 -- the cells of a row

@@ -7,7 +7,8 @@ use mathlib.Core.List.{List, [], _∷_, _++_, map}
 use mathlib.Core.Option.{Option, none, some}
 use lib.ListN.{length, drop}
 use Rattle.base.specs.Search.{find}
-use Rattle.tables.specs.Rows.{ScheduleRow, letterOf, AnswerRow}
+use Rattle.tables.specs.Rows.{ScheduleRow, letterOf}
+use Rattle.tables.specs.declared.answer.AnswerRow.{AnswerRow}
 use Rattle.tables.specs.declared.files.Kind.{Kind}
 use Rattle.schedules.specs.Schedules.{own}
 use Rattle.choice.specs.Choosing.{choice}

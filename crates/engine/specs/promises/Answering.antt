@@ -3,7 +3,7 @@ use Prim.Native.Nat.{ℕ}
 use mathlib.Core.List.{List}
 use lib.ListN.{length}
 use Rattle.tables.specs.Refusals.{bareRefusal}
-use Rattle.tables.specs.Rows.{AnswerRow}
+use Rattle.tables.specs.declared.answer.AnswerRow.{AnswerRow}
 use Rattle.tables.specs.declared.files.Refusal.{Refusal}
 use Rattle.outcome.specs.Study.{outcome, shortBuffer}
 use Rattle.engine.specs.Studying.{Comes}

@@ -9,13 +9,19 @@ use crate::refusal::{refuse_if, refuse_where, Refusal};
 use crate::rules::{Files, Filing};
 use crate::table::Kind;
 
+/// What a study comes to: its hour, and the rows of the answer.
+pub struct Decision {
+    pub hour: u64,
+    pub rows: Vec<Row>,
+}
+
 impl Day {
     /// Studies the files. A day "goes into a call and comes back with the answer": the next day and
     /// the answer's length where the study is accepted, else the day that was given, the refusal,
     /// and a buffer in which no byte has changed.
     pub fn study(self, files: &Files, buffer: &mut [u8]) -> (Day, Result<usize, Refusal>) {
-        match self.rows(files, buffer.len()) {
-            Ok((hour, rows)) => {
+        match self.decide_within(files, buffer.len()) {
+            Ok(Decision { hour, rows }) => {
                 let length = answer::write(&rows, buffer);
                 let chosen: Vec<Running> = rows.iter().map(running).collect();
                 (self.after_study(hour, &chosen), Ok(length))
@@ -24,18 +30,24 @@ impl Day {
         }
     }
 
-    /// The hour and the answer's rows, or the first refusal: "24; then file by file 1, 2, 4, 3, 5, 6,
-    /// 7, each over the whole file; then 8, 9, 20, 21, 22, 10", with 35 and 36 where the files are read.
-    fn rows(&self, files: &Files, lent: usize) -> Result<(u64, Vec<Row>), Refusal> {
+    /// The decision, whose answer fits into the room that is lent: 10 is the last of all refusals.
+    fn decide_within(&self, files: &Files, lent: usize) -> Result<Decision, Refusal> {
+        let decision = self.decide(files)?;
+        refuse_if(answer::length(&decision.rows) > lent, Refusal::nowhere(10))?;
+        Ok(decision)
+    }
+
+    /// The decision, or the first refusal that has nothing to do with a buffer: "24; then file by file 1,
+    /// 2, 4, 3, 5, 6, 7, each over the whole file; then 8, 9, 20, 21, 22", with 35 and 36 where the files
+    /// are read.
+    pub fn decide(&self, files: &Files) -> Result<Decision, Refusal> {
         refuse_if(self.ill_formed(), Refusal::nowhere(24))?;
         let filing = Filing::read(files)?;
         let hour = filing.constraint.hour;
         refuse_if(self.hour.is_some_and(|last| hour < last), Refusal::nowhere(20))?;
         refuse_where(self.stuck_on_cost(&filing), 21, 3)?;
         refuse_if(self.running_after(&filing) > Day::UNITS, Refusal::nowhere(22))?;
-        let rows = self.answer_rows(&filing);
-        refuse_if(answer::length(&rows) > lent, Refusal::nowhere(10))?;
-        Ok((hour, rows))
+        Ok(Decision { hour, rows: self.answer_rows(&filing) })
     }
 
     /// 21: "unit of the supply file, running on cost, has no C schedule (file 3, lowest unit)".

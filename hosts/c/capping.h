@@ -100,6 +100,33 @@ uint64_t capping_day_study(uint64_t day[CAPPING_DAY_CELLS],
                            uint8_t *answer, size_t answer_len,
                            uint64_t report[3]);
 
+/* A row of the answer file as cells, and where in them what stands: the verdict is 'U', 'P' or 'F', the kind 'M' or 'C', each as
+ * its letter's number. */
+enum {
+    CAPPING_ROW_UNIT,
+    CAPPING_ROW_SUPPLIER,
+    CAPPING_ROW_VERDICT,
+    CAPPING_ROW_LEFT,
+    CAPPING_ROW_SCHEDULE,
+    CAPPING_ROW_KIND,
+    CAPPING_ROW_COST,
+    CAPPING_ROW_CELLS
+};
+
+/* Looks before committing: stores the row that a study of the files on the day would write for one unit. No cell of the day
+ * changes, so threads may preview on one day at the same time, while none moves it on.
+ *
+ * Answers 0, or the number of the refusal, and no cell of the row has then changed. The report is 0, 0, 0, or what that study
+ * reports with a buffer long enough, so never 10. Where the study is accepted, a unit that isn't in supply is refused with 31. */
+uint64_t capping_preview(const uint64_t day[CAPPING_DAY_CELLS],
+                         const uint8_t *constraint, size_t constraint_len,
+                         const uint8_t *supply, size_t supply_len,
+                         const uint8_t *schedules, size_t schedules_len,
+                         const uint8_t *parents, size_t parents_len,
+                         uint64_t unit,
+                         uint64_t row[CAPPING_ROW_CELLS],
+                         uint64_t report[3]);
+
 /* Takes a running unit out of the day, and changes nothing else.
  *
  * Answers 0, or the number of the refusal; the report is 0, 0, 0, or that number, 0 and 0. */

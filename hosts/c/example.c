@@ -1,5 +1,5 @@
-/* What a caller writes: a day with a study of files that are read into memory, what runs then, and the release of a unit; one of the
- * files handed back tidy; and the test of the last of four suppliers. */
+/* What a caller writes: a look at the choice for one unit, and then the study of files that are read into memory; what runs after
+ * it, and the release of a unit; one of the files handed back tidy; and the test of the last of four suppliers. */
 #include "capping.h"
 
 #include <inttypes.h>
@@ -31,8 +31,11 @@ int main(void) {
     size_t p_len = read_file("parents.csv", p);
 
     uint8_t answer[CAPPING_LONGEST_ANSWER];
-    uint64_t day[CAPPING_DAY_CELLS], report[3];
+    uint64_t day[CAPPING_DAY_CELLS], row[CAPPING_ROW_CELLS], report[3];
     capping_day_fresh(day);
+    if (capping_preview(day, c, c_len, s, s_len, h, h_len, p, p_len, 14, row, report) == 0)
+        printf("unit 14 would run on %c schedule %" PRIu64 "\n", (char)row[CAPPING_ROW_KIND], row[CAPPING_ROW_SCHEDULE]);
+
     uint64_t count = capping_day_study(day, c, c_len, s, s_len, h, h_len, p, p_len, answer, sizeof answer, report);
     if (count == 0) printf("refused: %d, file %d, place %d\n", (int)report[0], (int)report[1], (int)report[2]);
     else fwrite(answer, 1, count, stdout);

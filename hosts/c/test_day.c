@@ -1,6 +1,5 @@
 /* Cases of the calls on a day, whose cells are lent as a caller keeps them. Accepted, every cell is that of the day afterwards,
  * with zeros behind the count; refused, every cell is as it was. What each must answer was worked from documents 01 and 02. */
-#include "capping_words.h"
 #include "testing.h"
 
 /* The starred example where its units run already, without affiliated suppliers and with them: nothing is added for their start. */
@@ -133,11 +132,6 @@ static const struct raw_study raw_studies[] = {
     {{7, 6, 0, 12, 'M', 1}, {0}, {"an earlier hour by another sign than 1", HEADER_ROOM, "", {20, 0, 0}, NO_UNITS}},
     {{1, 5, 1, 12, 'c', 1}, {0}, {"kind c", HEADER_ROOM, "", {24, 0, 0}, NO_UNITS}},
 };
-
-/* Words that are known to be in the form, as cells. */
-static void read_day(uint64_t *day, const char *words) {
-    require(words, "not read", capping_day_read(day, words));
-}
 
 /* Units 1 to 64 on M schedule 1 at hour 5, whatever their count. */
 static void full_day(uint64_t *day, uint64_t count) {

@@ -1,6 +1,5 @@
-/* Threads that call at the same time, each on a day of its own, with no more stack for a call than capping.h says. A tool that
- * watches threads sees what they share, however they happen to run. */
-#include "capping_words.h"
+/* Threads that call at the same time, each on a day of its own but for previews, which are all on one, with no more stack for a
+ * call than capping.h says. A tool that watches threads sees what they share, however they happen to run. */
 #include "testing.h"
 
 #include <pthread.h>
@@ -25,6 +24,9 @@ static pthread_mutex_t start = PTHREAD_MUTEX_INITIALIZER;
 /* The longest chain of parents, which takes the most stack; written before the threads begin. */
 static char chain[CHAIN_ROOM];
 
+/* The day that all threads preview on; made before they begin. */
+static uint64_t shared_day[CAPPING_DAY_CELLS];
+
 /* Tidies the starred schedules, which are tidy. Answers how much went wrong. */
 static int tidy_once(struct lent files) {
     uint8_t tidy[sizeof STARRED_SCHEDULES];
@@ -36,15 +38,25 @@ static int tidy_once(struct lent files) {
     return wrong;
 }
 
+/* Previews unit 14 on the day that all share. Answers how much went wrong. */
+static int preview_once(struct lent files) {
+    static const uint64_t expected[CAPPING_ROW_CELLS] = {14, 4, 'F', 0, 1, 'M', 500000};
+    uint64_t row[CAPPING_ROW_CELLS], report[3];
+    int wrong = 0;
+    wrong += capping_preview(shared_day, LENT_ALL(files), 14, row, report) != 0;
+    wrong += memcmp(row, expected, sizeof expected) != 0;
+    return wrong;
+}
+
 /* Studies on a day with the worker's unit, and releases that unit. Answers how much went wrong. */
-static int work_once(uint64_t unit, struct lent files, const uint8_t *parents, size_t parents_len) {
+static int work_once(uint64_t unit, struct lent files) {
     uint64_t day[CAPPING_DAY_CELLS], studied[CAPPING_DAY_CELLS], report[3];
     uint8_t answer[CAPPING_LONGEST_ANSWER];
     size_t length = sizeof AFFILIATED_ANSWER - 1;
     int wrong = 0;
     capping_day_fresh(day);
     capping_day_add(day, unit, 'M', 1);
-    wrong += capping_day_study(day, LENT(files), parents, parents_len, answer, sizeof answer, report) != length;
+    wrong += capping_day_study(day, LENT_ALL(files), answer, sizeof answer, report) != length;
     wrong += memcmp(answer, AFFILIATED_ANSWER, length) != 0;
     wrong += !capping_day_read(studied, STARRED_DAY);
     wrong += capping_day_release(day, unit + 1, report) != 23;
@@ -57,14 +69,11 @@ static int work_once(uint64_t unit, struct lent files, const uint8_t *parents, s
 static void *work(void *given) {
     struct worker *w = given;
     const struct files texts = STARRED;
-    struct lent files = lend(&texts);
-    size_t parents_len = strlen(chain);
-    uint8_t *parents = copy_of(chain, parents_len);
+    struct lent files = lend_with(chain, &texts);
     pthread_mutex_lock(&start);
     pthread_mutex_unlock(&start);
     for (int round = 0; round < ROUNDS; round++)
-        w->wrong += work_once(w->unit, files, parents, parents_len) + tidy_once(files);
-    free(parents);
+        w->wrong += work_once(w->unit, files) + preview_once(files) + tidy_once(files);
     take_back(files);
     return NULL;
 }
@@ -75,6 +84,7 @@ int main(void) {
     require("threads", "no small stack",
             pthread_attr_init(&small) == 0 && pthread_attr_setstacksize(&small, CALL_STACK + OWN_STACK) == 0);
     write_chain(chain, MOST_PARENTS);
+    read_day(shared_day, STARRED_DAY);
     pthread_mutex_lock(&start);
     for (int i = 0; i < THREADS; i++) {
         workers[i].unit = 101 + (uint64_t)i;
@@ -86,7 +96,7 @@ int main(void) {
     pthread_mutex_unlock(&start);
     for (int i = 0; i < THREADS; i++) {
         pthread_join(workers[i].thread, NULL);
-        require("threads", "a wrong day or tidy file", workers[i].wrong == 0);
+        require("threads", "a wrong day, row or tidy file", workers[i].wrong == 0);
     }
     pthread_attr_destroy(&small);
     return failures == 0 ? 0 : 1;

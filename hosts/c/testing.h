@@ -3,7 +3,7 @@
 #ifndef TESTING_H
 #define TESTING_H
 
-#include "capping.h"
+#include "capping_words.h"
 
 #include <stdio.h>
 #include <stdlib.h>
@@ -16,12 +16,13 @@
 #define ANSWER_HEADER "unit,supplier,verdict,left,schedule,kind,cost\r\n"
 #define HOUR_5 CONSTRAINT "5,1000,300\r\n"
 
-/* The starred example of document 01, its answer, and the day after it. */
+/* The starred example of document 01, its schedules but for the last, its answer, and the day after it. */
 #define STARRED_SUPPLY SUPPLY "11,1,1000,3000,5000\r\n12,2,1000,3000,-5000\r\n13,3,1000,4000,5000\r\n14,4,2000,2000,200\r\n"
-#define STARRED_SCHEDULES \
+#define UNIT_14_MARKET_ONLY \
     SCHEDULES "11,1,M,5,100,4000,50000,20000,1\r\n11,2,C,5,100,3000,50000,20000,1\r\n" \
               "12,1,M,5,100,3300,0,0,1\r\n12,2,C,5,100,3000,0,0,1\r\n13,1,C,5,200,4000,0,1000,1\r\n" \
-              "14,1,M,5,100,5000,0,0,1\r\n14,2,C,5,100,2000,0,0,1\r\n"
+              "14,1,M,5,100,5000,0,0,1\r\n"
+#define STARRED_SCHEDULES UNIT_14_MARKET_ONLY "14,2,C,5,100,2000,0,0,1\r\n"
 #define STARRED_ANSWER \
     ANSWER_HEADER "11,1,F,0,2,C,1030000\r\n12,2,F,0,1,M,330000\r\n13,3,F,0,1,C,890000\r\n14,4,F,5000000,1,M,500000\r\n"
 #define STARRED_DAY "5;11:C:2,12:M:1,13:C:1,14:M:1"
@@ -102,26 +103,40 @@ static inline void *copy_of(const void *bytes, size_t length) {
     return memcpy(untouched(length), bytes, length);
 }
 
-/* Files as a call takes them. */
+/* Words that are known to be in the form, as cells. */
+static inline void read_day(uint64_t *day, const char *words) {
+    require(words, "not read", capping_day_read(day, words));
+}
+
+/* Files as a call takes them: the first three as a check does, all as a study does. */
 struct lent {
-    uint8_t *constraint, *supply, *schedules;
-    size_t constraint_len, supply_len, schedules_len;
+    uint8_t *constraint, *supply, *schedules, *parents;
+    size_t constraint_len, supply_len, schedules_len, parents_len;
 };
 
 #define LENT(l) (l).constraint, (l).constraint_len, (l).supply, (l).supply_len, (l).schedules, (l).schedules_len
+#define LENT_ALL(l) LENT(l), (l).parents, (l).parents_len
 
-static inline struct lent lend(const struct files *f) {
-    struct lent l = {NULL, NULL, NULL, strlen(f->constraint), strlen(f->supply), strlen(f->schedules)};
+/* Files with a parents file, as its text. */
+static inline struct lent lend_with(const char *parents, const struct files *f) {
+    struct lent l = {NULL, NULL, NULL, NULL, strlen(f->constraint), strlen(f->supply), strlen(f->schedules), strlen(parents)};
     l.constraint = copy_of(f->constraint, l.constraint_len);
     l.supply = copy_of(f->supply, l.supply_len);
     l.schedules = copy_of(f->schedules, l.schedules_len);
+    l.parents = copy_of(parents, l.parents_len);
     return l;
+}
+
+/* Files without parents. */
+static inline struct lent lend(const struct files *f) {
+    return lend_with("", f);
 }
 
 static inline void take_back(struct lent l) {
     free(l.constraint);
     free(l.supply);
     free(l.schedules);
+    free(l.parents);
 }
 
 /* What a call writes into: a buffer and a report. */
@@ -153,15 +168,11 @@ static inline void expect_written(const char *name, struct room r, uint64_t coun
 }
 
 /* Studies with a parents file, as its text, on the day, or on a fresh one where that is NULL. */
-static inline void expect_study_with(const char *text, const struct study *s, uint64_t *day) {
-    struct lent files = lend(&s->files);
+static inline void expect_study_with(const char *parents, const struct study *s, uint64_t *day) {
+    struct lent files = lend_with(parents, &s->files);
     struct room room = lend_room(s->room);
-    size_t parents_len = strlen(text);
-    uint8_t *parents = copy_of(text, parents_len);
-    uint64_t count = day == NULL ? capping_study(LENT(files), parents, parents_len, ROOM(room))
-                                 : capping_day_study(day, LENT(files), parents, parents_len, ROOM(room));
+    uint64_t count = day == NULL ? capping_study(LENT_ALL(files), ROOM(room)) : capping_day_study(day, LENT_ALL(files), ROOM(room));
     expect_written(s->name, room, count, s->answer, s->report);
-    free(parents);
     take_back(files);
 }
 

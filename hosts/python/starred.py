@@ -28,6 +28,9 @@ AFFILIATED_ANSWER = STARRED_ANSWER.replace(b"14,4,F,5000000,", b"14,4,F,0,")
 AGAIN_ANSWER = ANSWER + b"11,1,F,0,2,C,830000\r\n12,2,F,0,1,M,330000\r\n13,3,F,0,1,C,880000\r\n14,4,F,5000000,1,M,500000\r\n"
 STARRED_DAY = "5;11:C:2,12:M:1,13:C:1,14:M:1"
 
+# The largest number that a call takes.
+LARGEST = 2**64 - 1
+
 
 def quoted(content):
     """The same file with every field quoted, and without the last CR LF."""
@@ -46,3 +49,10 @@ class Case(unittest.TestCase):
         told = raised.exception
         self.assertEqual((told.number, told.file, told.place), (number, file, place))
         return str(told)
+
+
+class DayCase(Case):
+    def refused_unchanged(self, number, file, place, day, call, *arguments, **named):
+        before = day.cells
+        self.refused(number, file, place, call, *arguments, **named)
+        self.assertEqual(day.cells, before)

@@ -175,7 +175,7 @@ class Test(Case):
 
 class Words(unittest.TestCase):
     def test_every_number(self):
-        for number in (*range(1, 12), *range(20, 25), 30, 35, 36):
+        for number in (*range(1, 12), *range(20, 25), 30, 31, 35, 36):
             self.assertIn(f"refusal {number}: ", str(capping.Refused(number)))
 
     def test_pickled(self):

@@ -7,7 +7,7 @@ import tempfile
 import unittest
 
 from starred import AFFILIATED_ANSWER, AGAIN_ANSWER, PARENTS, STARRED, STARRED_ANSWER, STARRED_BY_NAME, STARRED_DAY
-from starred import STARRED_SUPPLY, SUPPLY, quoted
+from starred import ANSWER, SCHEDULES, STARRED_SCHEDULES, STARRED_SUPPLY, SUPPLY, quoted
 
 PACKAGES = pathlib.Path(__file__).resolve().parent
 NAMES = ("constraint.csv", "supply.csv", "schedules.csv")
@@ -172,6 +172,72 @@ class Study(Case):
         self.assertEqual((self.day.read_text(), self.day.stat().st_mode & 0o777), (STARRED_DAY + "\n", 0o640))
 
 
+class Preview(Case):
+    def shows(self, row, *arguments):
+        """Requires the command to print the header and this row, and to leave the day as it was."""
+        before = self.day.read_bytes() if self.day.exists() else None
+        self.answers(ANSWER + row + b"\r\n", "preview", *arguments)
+        self.assertEqual(self.day.read_bytes() if self.day.exists() else None, before)
+        self.nothing_left_over()
+
+    def test_without_a_day(self):
+        self.shows(b"11,1,F,0,2,C,1030000", 11, self.folder)
+        self.shows(b"14,4,F,5000000,1,M,500000", 14, self.folder)
+
+    def test_day_that_is_not_there_yet(self):
+        self.shows(b"14,4,F,5000000,1,M,500000", 14, self.folder, "--day", self.day)
+
+    def test_on_a_day(self):
+        self.day.write_text("4;14:C:2")
+        self.shows(b"14,4,F,5000000,2,C,220000", 14, self.folder, "--day", self.day)
+        self.shows(b"11,1,F,0,2,C,1030000", "--day", self.day, 11, self.folder)
+        self.day.chmod(0o400)
+        self.shows(b"14,4,F,5000000,2,C,220000", 14, self.folder, "--day", self.day)
+
+    def test_before_a_study(self):
+        self.shows(b"11,1,F,0,2,C,1030000", 11, self.folder, "--day", self.day)
+        self.answers(STARRED_ANSWER, "study", self.folder, "--day", self.day)
+        self.shows(b"11,1,F,0,2,C,830000", 11, self.folder, "--day", self.day)
+        self.answers(AGAIN_ANSWER, "study", self.folder, "--day", self.day)
+
+    def test_parents(self):
+        (self.folder / "parents.csv").write_bytes(PARENTS + b"1,2\r\n")
+        self.shows(b"14,4,F,0,1,M,500000", 14, self.folder)
+
+    def test_not_in_supply(self):
+        words = (
+            "refused with 31: the unit to preview isn't in supply\n"
+            "units in supply.csv: 11, 12, 13, 14\n"
+            "docs/REFUSALS.md says how to mend it, under 31\n"
+        )
+        for unit in (0, 15, 2**64 + 14):
+            self.fails(1, words, "preview", unit, self.folder)
+        (self.folder / "supply.csv").write_bytes(SUPPLY)
+        (self.folder / "schedules.csv").write_bytes(SCHEDULES)
+        self.fails(1, "units in supply.csv: none\n", "preview", 14, self.folder)
+
+    def test_refused_as_a_study(self):
+        self.day.write_text("6;11:M:1\n")
+        words = "refused with 20: the hour is earlier than the day's\nconstraint.csv, record 1: 5,1000,300\nthe day: 6;11:M:1\n"
+        self.fails(1, words, "preview", 15, self.folder, "--day", self.day)
+        self.day.write_text("24;\n")
+        self.fails(1, "refused with 24: the day is ill-formed\n", "preview", 14, self.folder, "--day", self.day)
+        self.day.write_text("5;14:C:2\n")
+        (self.folder / "schedules.csv").write_bytes(STARRED_SCHEDULES.replace(b"14,2,C,5,100,2000,0,0,1\r\n", b""))
+        words = "refused with 21: a unit that runs on cost has no cost-based schedule\nschedules.csv, unit 14\n"
+        self.fails(1, words, "preview", 11, self.folder, "--day", self.day)
+        (self.folder / "supply.csv").write_bytes(b"x" * (MOST_BYTES + 1))
+        self.fails(1, "refused: supply.csv is too long", "preview", 11, self.folder)
+
+    def test_day_that_is_none(self):
+        self.day.write_text("five\n")
+        self.fails(2, f"{self.day} holds no day: ", "preview", 14, self.folder, "--day", self.day)
+
+    def test_row_that_cant_be_printed(self):
+        with open("/dev/full", "wb") as full:
+            self.fails(2, "standard output: ", "preview", 14, self.folder, stdout=full)
+
+
 class Release(Case):
     def test_unit_taken_out(self):
         self.day.write_text(STARRED_DAY)
@@ -264,6 +330,14 @@ class Usage(Case):
             ("check",),
             ("check", self.folder, "--day", self.day),
             ("study", self.folder, "--da", self.day),
+            ("preview",),
+            ("preview", self.folder),
+            ("preview", 14),
+            ("preview", self.folder, 14),
+            ("preview", "-1", self.folder),
+            ("preview", "014", self.folder),
+            ("preview", "1e1", self.folder),
+            ("preview", 14, self.folder, "--as", "supply"),
             ("release", 11),
             ("release", "-1", "--day", self.day),
             ("release", "011", "--day", self.day),
@@ -272,19 +346,25 @@ class Usage(Case):
 
     def test_no_folder(self):
         self.fails(2, f"{self.day} isn't a folder\n", "check", self.day)
+        self.fails(2, f"{self.day} isn't a folder\n", "preview", 14, self.day)
 
     def test_help(self):
-        for arguments in ((), ("check",), ("study",), ("release",), ("tidy",)):
+        for arguments in ((), ("check",), ("study",), ("preview",), ("release",), ("tidy",)):
             ran = self.run_command(*arguments, "--help")
             self.assertEqual((ran.returncode, ran.stderr), (0, b""))
             for words in (b"exit status:", b"  0  there", b"  1  refused", b"  2  wrong usage", b"docs/REFUSALS.md"):
                 self.assertIn(words, ran.stdout)
 
     def test_help_says_what_reads_parents(self):
-        for arguments in ((), ("check",), ("study",)):
+        for arguments in ((), ("check",), ("study",), ("preview",)):
             printed = self.run_command(*arguments, "--help").stdout
-            self.assertIn(b"A study reads parents.csv too where FOLDER has it", printed)
+            self.assertIn(b"A study and a preview read parents.csv too where FOLDER has it", printed)
             self.assertIn(b"A check takes the three files alone.", printed)
+
+    def test_help_says_that_a_preview_moves_nothing(self):
+        for arguments in ((), ("preview",)):
+            printed = self.run_command(*arguments, "--help").stdout
+            self.assertIn(b"Nothing is moved: the\nFILE of --day is only read.", printed)
 
     def test_help_says_which_file_is_tidied(self):
         for arguments in ((), ("tidy",)):

@@ -7,21 +7,13 @@ import unittest
 import capping
 from capping import Day, Running
 from starred import AFFILIATED_ANSWER, AGAIN_ANSWER, ANSWER, CONSTRAINT, HOUR_5, PARENTS, SCHEDULES, STARRED, STARRED_ANSWER
-from starred import STARRED_DAY, SUPPLY, Case, others
+from starred import LARGEST, STARRED_DAY, SUPPLY, DayCase, others
 
 STARRED_RUNNING = (Running(11, "C", 2), Running(12, "M", 1), Running(13, "C", 1), Running(14, "M", 1))
 NO_UNITS_HOUR_4 = (CONSTRAINT + b"4,1000,300\r\n", SUPPLY, SCHEDULES)
 NO_UNITS_HOUR_6 = (CONSTRAINT + b"6,1000,300\r\n", SUPPLY, SCHEDULES)
 UNIT_11_WITHOUT_COST = (HOUR_5, SUPPLY + b"11,1,1000,3000,5000\r\n", SCHEDULES + b"11,1,M,5,100,4000,50000,20000,1\r\n")
-LARGEST = 2**64 - 1
 ILL_FORMED = ("24;", "5;12:C:1,11:M:1", "5;11:M:1,11:M:1", "5;0:M:1", "5;10000:M:1", "5;11:M:0", "n;11:M:100", others(65))
-
-
-class DayCase(Case):
-    def refused_unchanged(self, number, file, place, day, call, *arguments, **named):
-        before = day.cells
-        self.refused(number, file, place, call, *arguments, **named)
-        self.assertEqual(day.cells, before)
 
 
 class Study(DayCase):
@@ -117,6 +109,7 @@ class IllFormed(DayCase):
         for words in ILL_FORMED:
             day = Day.parse(words)
             self.refused_unchanged(24, 0, 0, day, day.study, *STARRED)
+            self.refused_unchanged(24, 0, 0, day, day.preview, *STARRED, 11)
             self.refused_unchanged(24, 0, 0, day, day.release, 11)
 
     def test_a_kind_that_is_neither(self):

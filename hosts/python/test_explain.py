@@ -18,7 +18,9 @@ class Case(unittest.TestCase):
         files = dict(zip(columns.FILES, files))
         with self.assertRaises(capping.Refused) as raised:
             day.study(**files)
-        refused = raised.exception
+        return self.explains(raised.exception, files, day, *details)
+
+    def explains(self, refused, files, day, *details):
         first, *lines, last = explained(refused, files, day)
         self.assertEqual(first, f"refused with {refused.number}: {refused.meaning}")
         self.assertEqual(tuple(lines), details)
@@ -183,6 +185,24 @@ class OfTheDay(Case):
 
     def test_ill_formed(self):
         self.assertEqual(self.told(STARRED, "the day: 24;", day="24;"), 24)
+
+
+class OfAPreview(Case):
+    def told_of(self, unit, files, *details):
+        """The same of a preview on a fresh day."""
+        files = dict(zip(columns.FILES, files))
+        with self.assertRaises(capping.Refused) as raised:
+            capping.Day.fresh().preview(**files, unit=unit)
+        return self.explains(raised.exception, files, capping.Day.fresh(), *details)
+
+    def test_not_in_supply(self):
+        rows = b"102,1,1,1,1\r\n9,1,1,1,1\r\n102,1,1,1,1\r\n"
+        schedules = SCHEDULES + b"9,1,C,5,1,1,1,1,1\r\n102,1,C,5,1,1,1,1,1\r\n"
+        self.assertEqual(self.told_of(11, (HOUR_5, SUPPLY + rows, schedules), "units in supply.csv: 9, 102"), 31)
+        self.assertEqual(self.told_of(11, (HOUR_5, SUPPLY, SCHEDULES), "units in supply.csv: none"), 31)
+
+    def test_of_the_files(self):
+        self.assertEqual(self.told_of(15, (HOUR_5, STARRED_SUPPLY, SCHEDULES + ROW_11), "schedules.csv, unit 12"), 8)
 
 
 class Shown(unittest.TestCase):

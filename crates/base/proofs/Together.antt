@@ -18,7 +18,7 @@ take-next (suc i) [] e = let z : _≡_ {A = ℕ} 0 1 = cc in absurd (omega arith
 take-next (suc i) (y ∷ ys) e = ap (λ l. y ∷ l) (take-next i ys e)
 
 module _ {A : Type 0} (text : A → List ℕ) where
-  together-append : (xs ys : List A) → together text (xs ++ ys) ≡ together text xs ++ together text ys
+  pub together-append : (xs ys : List A) → together text (xs ++ ys) ≡ together text xs ++ together text ys
   unfolding together
   together-append [] ys = refl
   together-append (x ∷ xs) ys =

@@ -3,4 +3,5 @@ pub mod DayCellLaws
 pub mod DayInLaws
 pub mod ExportLaws
 pub mod LayingLaws
+pub mod PreviewLaws
 pub mod TidyLaws

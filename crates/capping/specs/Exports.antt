@@ -1,4 +1,4 @@
--- What the study, the release, the test and tidying promise host programs, who know an answer by its numbers: document 01's number,
+-- What the study, the preview, the release, the test and tidying promise host programs, who know an answer by its numbers: document 01's number,
 -- file and place, or zeros, and 0 for P and 1 for F. Assumes nothing.
 use Prim.Native.Nat.{ℕ, _<_}
 use mathlib.Core.Path.{_≡_}
@@ -9,13 +9,15 @@ use mathlib.Core.Option.{Option, none, some}
 use lib.Dec.{eqb}
 use lib.ListN.{take}
 use Rattle.tables.specs.Refusals.{bareRefusal, told}
+use Rattle.tables.specs.declared.answer.AnswerRow.{AnswerRow}
 use Rattle.tables.specs.declared.files.File.{File}
 use Rattle.tables.specs.declared.files.File.the-variants.{Constraint, Supply, Schedules}
 use Rattle.tables.specs.declared.files.Refusal.{Refusal}
 use Rattle.pivotal.specs.Test.{F, verdictLetter, TestOutcome}
 use Rattle.checking.specs.Files.{Files}
 use Rattle.outcome.specs.Day.{DayView, releaseRefusal, released}
-use Rattle.outcome.specs.Right.{Right}
+use Rattle.outcome.specs.Preview.{Previewing}
+use Rattle.outcome.specs.Right.{Right, RightFor}
 use Rattle.outcome.specs.Study.{Outcome}
 use Rattle.tidy.specs.Longest.{longestTidy}
 use Rattle.tidy.specs.Tidy.{Tidying, tidying, tidied}
@@ -51,6 +53,25 @@ pub record DayKept (cells new : List ℕ) (after : DayView) (r : Refusal) : Type
 pub record DayStudied (o : Outcome) (cells kept new report : List ℕ) (r : ℕ) : Type 0 where
   pub tells : StudyTold o new report r
   pub day-after : DayKept cells kept (o .day) (o .told)
+
+-- the cells of a row
+abbrev pub rowCells : AnswerRow → List ℕ
+rowCells r = r .unit ∷ r .supplier ∷ r .verdict ∷ r .left ∷ r .schedule ∷ r .kind ∷ r .cost ∷ []
+
+-- the lent cells after a preview: those of the row, and where it is refused not one has changed
+abbrev pub cellsShown : List ℕ → Option AnswerRow → List ℕ
+cellsShown cells none = cells
+cellsShown cells (some r) = rowCells r
+
+-- a preview: 0, or the number of the refusal
+pub record PreviewTold (o : Previewing) (cells new report : List ℕ) (r : ℕ) : Type 0 where
+  pub number : r ≡ o .told .number
+  pub row : new ≡ cellsShown cells (o .row)
+  pub reports : report ≡ reported (o .told)
+
+-- demand 3 on the row, where one is shown: its cells are right for the unit, and no others are
+abbrev pub ShownRight : DayView → Files → ℕ → List ℕ → ℕ → Type 0
+ShownRight d f u new r = r ≡ 0 → (row : AnswerRow) → (rowCells row ≡ new) ↔ RightFor d f u row
 
 -- a release from a day that is kept in cells: 0, or the number of the refusal
 pub record DayReleased (cells kept : List ℕ) (u : ℕ) (report : List ℕ) (r : ℕ) : Type 0 where

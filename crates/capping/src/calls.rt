@@ -1,6 +1,7 @@
 // What a call answers, as host programs are told it: number, file and place in a report of three cells,
 // and what is kept of a day in its cells. Assumes nothing.
 ghost use mathlib.Core.Path.{_≡_};
+ghost use Rattle.engine.specs.Previewing.{previewTold};
 ghost use Rattle.engine.specs.Releasing.{releaseTold};
 ghost use Rattle.engine.specs.Studying.{studyTold, studyCount};
 ghost use Rattle.engine.specs.View.{viewOf};
@@ -10,6 +11,7 @@ ghost use Rattle.capping.specs.Exports.{reported, cellsAfter};
 use crate::days::CELLS;
 use crate::days::lay_down;
 use engine::Day;
+use engine::Preview;
 use engine::Release;
 use engine::Study;
 use tables::Refusal;
@@ -22,6 +24,16 @@ pub(crate) fn told_by_study(study: Study) -> Refusal
     match study {
         Study::Written(_) => nothing(),
         Study::Refused(refusal) => refusal,
+    }
+}
+
+// Number, file and place of what a preview answered.
+pub(crate) fn told_by_preview(preview: Preview) -> Refusal
+    ensures { λ r. ⌜ r ≡ previewTold preview ⌝ }
+{
+    match preview {
+        Preview::Row(_) => nothing(),
+        Preview::Refused(refusal) => refusal,
     }
 }
 

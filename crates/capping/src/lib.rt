@@ -1,10 +1,12 @@
 // What host programs in C, Rust and Python link: the check of three files, the study of a fresh day, a
-// day that is studied and released from call after call, the test of one supplier, and one file tidied.
+// day that is studied, previewed and released from call after call, the test of one supplier, and one file
+// tidied.
 mod calls;
 mod check;
 mod day_calls;
 mod days;
 mod exports;
+mod previewing;
 mod tidying;
 
 pub use check::capping_check;
@@ -13,5 +15,6 @@ pub use day_calls::capping_day_release;
 pub use day_calls::capping_day_study;
 pub use exports::capping_study;
 pub use exports::capping_test;
+pub use previewing::capping_preview;
 pub use tidying::capping_longest_tidy;
 pub use tidying::capping_tidy;

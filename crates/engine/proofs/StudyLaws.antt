@@ -2,12 +2,11 @@
 -- Assumes nothing.
 use Prim.Native.Nat.{ℕ, _≤_, _<_}
 use mathlib.Core.Path.{_≡_, refl, sym, _∙_, ap}
-use mathlib.Core.List.{List, _++_, map}
+use mathlib.Core.List.{List, map}
 use mathlib.Core.Option.{Option, none, some}
 use native.Mathlib.Omega.{arith}
 use lib.Dec.{leb}
-use lib.ListN.{length, take, drop, length-append}
-use lib.Seq.{take-at}
+use lib.ListN.{length, take}
 use borrow.Author.Tests.{le-leb, lt-leb}
 use Rattle.base.specs.Text.{written}
 use Rattle.base.specs.promises.Writing.{Wrote}
@@ -30,6 +29,7 @@ use Rattle.outcome.specs.Study.{
 use Rattle.outcome.proofs.Demand3.{demand-3}
 use Rattle.outcome.proofs.RefusalOrder.{refused-deciding, short-buffer-last, accepted-deciding}
 use Rattle.outcome.proofs.Numbered.{told-accepted}
+use Rattle.outcome.proofs.StudyBytes.{file-written as bytes-written, written-within as within}
 use Rattle.running.specs.View.{unitsOf}
 use Rattle.running.specs.declared.units.Units.{Units}
 use Rattle.engine.specs.Studying.{studyTold, studyCount, Comes, Studies, AnswersRight}
@@ -106,24 +106,12 @@ module _ (day : Day) (f : Files) (old new : List ℕ) (r : Studied) (studies : S
     accepted : studyRefusal (viewOf day) f (length old) ≡ none
     accepted = told-accepted (viewOf day) f old (omega (arith, ap (λ (x : Refusal). x .number) (studies .tells), zero))
 
-    counted : studyCount (r .answer) ≡ length (answerFile (viewOf day) f)
-    unfolding studied outcome answerFile
-    counted = studies .counts ∙ rw accepted
-
-    file-bytes : new ≡ answerFile (viewOf day) f ++ drop (length (answerFile (viewOf day) f)) old
-    unfolding studied outcome written answerFile
-    file-bytes = studies .bytes ∙ rw accepted
-
     -- the bytes that were written lie in the buffer
     pub written-within : studyCount (r .answer) ≤ length new
-    written-within =
-        let text = answerFile (viewOf day) f in
-        rw (file-bytes, length-append text (drop (length text) old)) (omega (arith, counted))
+    written-within = rw (studies .counts, studies .bytes) (within (viewOf day) f old accepted)
 
     file-written : take (studyCount (r .answer)) new ≡ answerFile (viewOf day) f
-    file-written =
-        let text = answerFile (viewOf day) f in
-        rw (counted, file-bytes) (take-at text (drop (length text) old) (length text) refl)
+    file-written = rw (studies .counts, studies .bytes) (bytes-written (viewOf day) f old accepted)
 
   pub answers-right : AnswersRight day f new r
   answers-right zero text =

@@ -1,3 +1,4 @@
+pub mod Previewing
 pub mod Releasing
 pub mod Studying
 pub mod View

@@ -17,3 +17,6 @@ pub const NOT_RUNNING: u64 = 23;
 
 // The day is ill-formed.
 pub const ILL_FORMED: u64 = 24;
+
+// A unit to be previewed isn't in the supply file.
+pub const NOT_SUPPLIED: u64 = 31;

@@ -7,25 +7,20 @@ use mathlib.Core.List.{List}
 use mathlib.Core.Option.{Option, none, some}
 use native.Mathlib.Omega.{arith}
 use lib.ListN.{length}
-use borrow.Author.Tests.{le-leb}
-use Rattle.tables.specs.Refusals.{unless, told}
+use Rattle.tables.specs.Refusals.{told}
 use Rattle.tables.specs.declared.files.Refusal.{Refusal}
 use Rattle.checking.specs.Files.{Files}
 use Rattle.outcome.specs.Day.{DayView}
-use Rattle.outcome.specs.Study.{shortBuffer, studyRows, answerFile, decisionRefusal, studyRefusal, studied}
+use Rattle.outcome.specs.Study.{decisionRefusal, studied}
 use Rattle.outcome.proofs.Numbered.{study-told, decision-not-10}
-use Rattle.outcome.proofs.RefusalOrder.{refused-deciding, short-buffer-last}
+use Rattle.outcome.proofs.RefusalOrder.{enough-room}
 use Rattle.longest.specs.Longest.{longest}
 use Rattle.longest.proofs.StudyLongest.{study-longest}
 
-module _ (d : DayView) (f : Files) (buffer : List ℕ) (room : longest ≤ length buffer) where
-  not-short : decisionRefusal d f ≡ none → shortBuffer (studyRows d f) (length buffer) ≡ none
-  unfolding shortBuffer unless answerFile
-  not-short ok = rw (le-leb (length (answerFile d f)) (length buffer) (omega (arith, study-longest d f ok)))
-
-  pub never-10 : studied d f buffer .told .number ≢ 10
-  never-10 = rw (study-told d f buffer) (go (decisionRefusal d f) refl)
-    where
-      go : (o : Option Refusal) → decisionRefusal d f ≡ o → told (studyRefusal d f (length buffer)) .number ≢ 10
-      go none e = rw (short-buffer-last d f (length buffer) e, not-short e) (λ z. absurd (omega (arith, z)))
-      go (some r) e = rw (refused-deciding d f (length buffer) r e) (decision-not-10 d f r e)
+pub never-10 : (d : DayView) (f : Files) (buffer : List ℕ) → longest ≤ length buffer → studied d f buffer .told .number ≢ 10
+never-10 d f buffer room =
+    rw (study-told d f buffer, enough-room d f (length buffer) (λ ok. omega (arith, study-longest d f ok))) (go (decisionRefusal d f) refl)
+  where
+    go : (o : Option Refusal) → decisionRefusal d f ≡ o → told o .number ≢ 10
+    go none e = λ z. absurd (omega (arith, z))
+    go (some r) e = decision-not-10 d f r e

@@ -3,6 +3,7 @@ use Rattle.base.specs.Text.{together, written}
 use Rattle.outcome.specs.Answer.{answerHeader, line, answerText}
 use Rattle.outcome.specs.Day.{hourInRange, unitInRange, risingInRange, dayFormed, freshDay, runs, without, releaseRefusal, released, put, putAll, committed, earlier, kindRunning, wouldRun}
 use Rattle.outcome.specs.Decision.{ofUnit, unitRow, untested, cleared, leftOf, verdictOf, leftShown, hasRelevant, hasEligible, exposedUnit, choiceOf, decidedRow, decided, lacksCost, noCostSchedule}
+use Rattle.outcome.specs.Preview.{previewing, rowFor, notSupplied, previewRefusals, previewRefusal, previewed}
 use Rattle.outcome.specs.Study.{chosen, outcome, tooManyRunning, shortBuffer, rowsRefusals, studyRows, answerFile, decisionRefusals, studyRefusals, decisionRefusal, studyRefusal, studied}
 use Rattle.tables.specs.Values.{inColumn}
 use Rattle.tables.specs.Refusals.{unless}
@@ -22,3 +23,7 @@ decision·all = tt
 unfoldable pub study·all : Unit {0}
 unfolding chosen written outcome tooManyRunning shortBuffer rowsRefusals studyRows answerFile decisionRefusals studyRefusals decisionRefusal studyRefusal studied
 study·all = tt
+
+unfoldable pub preview·all : Unit {0}
+unfolding previewing rowFor notSupplied previewRefusals previewRefusal previewed
+preview·all = tt

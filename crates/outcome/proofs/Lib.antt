@@ -1,3 +1,4 @@
+pub mod Computed
 pub mod Computing
 pub mod DayAfter
 pub mod DayLaws
@@ -10,6 +11,8 @@ pub mod NoParents
 pub mod Numbered
 pub mod OneMarket
 pub mod OwnRows
+pub mod PreviewLaws
+pub mod PreviewRows
 pub mod RefusalOrder
 pub mod RisingSame
 pub mod RowLaws
@@ -18,6 +21,7 @@ pub mod RowsToBytes
 pub mod ScheduleRight
 pub mod Sound
 pub mod Starred
+pub mod StudyBytes
 pub mod StudyLetters
 pub mod StudyRows
 pub mod TestRight

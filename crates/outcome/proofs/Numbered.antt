@@ -10,7 +10,7 @@ use native.Mathlib.Omega.{arith}
 use lib.ListN.{length}
 use lib.Dec.{leb, eqb}
 use Rattle.base.specs.Rising.{among}
-use Rattle.base.specs.Search.{firstOf, All, all-none, all-more}
+use Rattle.base.specs.Search.{any, firstOf, All, all-none, all-more}
 use Rattle.base.proofs.Tests.{false-true}
 use Rattle.tables.specs.Reading.{rows, misfit, miscount, malformed, irregular, misshapen, refusal}
 use Rattle.tables.specs.Refusals.{refused, bareRefusal, unless, told}
@@ -21,7 +21,8 @@ use Rattle.tables.specs.declared.answer.AnswerRow.{AnswerRow}
 use Rattle.checking.specs.Files.{Files, affiliateRefusals, aloneRefusals, marketRefusals, schedulesRefusals, unitsRefusals, besideRefusals, checkRefusals, constraintOf, supplyOf, schedulesOf, parentsOf, orHeader}
 use Rattle.outcome.specs.Day.{DayView, dayFormed, runs, releaseRefusal, earlier, wouldRun, mostRunning}
 use Rattle.outcome.specs.Study.{outcome, tooManyRunning, shortBuffer, rowsRefusals, decisionRefusals, decisionRefusal, studyRefusals, studyRefusal, studied, studyRows}
-use Rattle.outcome.specs.Decision.{noCostSchedule}
+use Rattle.outcome.specs.Decision.{ofUnit, noCostSchedule}
+use Rattle.outcome.specs.Preview.{previewing, notSupplied, previewRefusals, previewRefusal, previewed}
 use Rattle.outcome.specs.Answer.{answerText}
 use Rattle.csv.specs.Records.{records}
 use Rattle.supply.specs.Supply.{units, overLimit, supplyAtOdds}
@@ -133,6 +134,11 @@ unfolding studyRefusals shortBuffer among
 study-numbered d f room =
     both (one-more (decision-numbered d f)) (all-more (bare (leb (length (answerText (studyRows d f))) room) 10 refl) all-none)
 
+preview-numbered : (d : DayView) (f : Files) (u : ℕ) → All (Numbered (31 ∷ decisionNumbers)) (previewRefusals d f u)
+unfolding previewRefusals notSupplied among
+preview-numbered d f u =
+    both (one-more (decision-numbered d f)) (all-more (bare (any (ofUnit u) (supplyOf (f .supply))) 31 refl) all-none)
+
 -- nothing is refused where 0 is told
 none-told : {ns : List ℕ} {o : Option Refusal} → among 0 ns ≡ false → Numbered ns o → told o .number ≡ 0 → o ≡ none
 none-told other nothing e = refl
@@ -144,6 +150,11 @@ unfolding outcome
 outcome-told d h rows buffer none = refl
 outcome-told d h rows buffer (some r) = refl
 
+previewing-told : (row : Option AnswerRow) (o : Option Refusal) → previewing row o .told ≡ told o
+unfolding previewing
+previewing-told row none = refl
+previewing-told row (some r) = refl
+
 module _ (d : DayView) (f : Files) where
   -- a study tells its first refusal
   pub study-told : (buffer : List ℕ) → studied d f buffer .told ≡ told (studyRefusal d f (length buffer))
@@ -154,6 +165,15 @@ module _ (d : DayView) (f : Files) where
   unfolding studyRefusal among
   told-accepted buffer e =
       none-told refl (first-numbered (study-numbered d f (length buffer))) (rw (study-told buffer) at e)
+
+  -- and so does a preview
+  pub preview-told : (u : ℕ) → previewed d f u .told ≡ told (previewRefusal d f u)
+  unfolding previewed
+  preview-told u = previewing-told _ _
+
+  pub told-previewed : (u : ℕ) → previewed d f u .told .number ≡ 0 → previewRefusal d f u ≡ none
+  unfolding previewRefusal among
+  told-previewed u e = none-told refl (first-numbered (preview-numbered d f u)) (rw (preview-told u) at e)
 
   -- what deciding refuses has another number than a short buffer
   pub decision-not-10 : (r : Refusal) → decisionRefusal d f ≡ some r → r .number ≢ 10

@@ -70,7 +70,7 @@ unfoldable choice·all : Unit {0}
 unfolding inRun offerPrice price hourCost runningCost inItsRun share runCost startingCost cost kindOf those atHour schedules ofKinds hasAny eligibleKinds eligibleSchedule exposed shown better kept keptAll candidates choice
 choice·all = tt
 
-unfoldable engine·all : Unit {0}
+unfoldable pub engine·all : Unit {0}
 unfolding starred·all rising·all numbers·all supply·all affiliates·all schedules·all runs·all files·all market·all test·all choice·all day·all answer·all decision·all study·all
 engine·all = tt
 

@@ -112,3 +112,8 @@ pub record Right (d : DayView) (f : Files) (text : List ℕ) : Type 0 where
   pub in-layout : text ≡ answerText rows
   pub per-unit : RowPerUnit (supplyOf (f .supply)) rows
   pub every-row : All (RightOf d f) rows
+
+-- demand 3 on a row that is previewed for a unit
+pub record RightFor (d : DayView) (f : Files) (u : ℕ) (r : AnswerRow) : Type 0 where
+  pub its-unit : r .unit ≡ u
+  pub right : RightOf d f r

@@ -1,4 +1,5 @@
-"""The command for people: checks and studies the files of a folder, keeps a day in a file, and hands a file back tidy."""
+"""The command for people: checks and studies the files of a folder, or looks at one unit of theirs, keeps a day in a file, and
+hands a file back tidy."""
 import contextlib
 import os
 import sys
@@ -9,6 +10,7 @@ from .day import Day
 from .explain import explained
 from .files import TooLong, Unreadable, naming, read_day, read_file, read_folder, replacing
 from .refusal import Refused
+from .row import HEADER
 
 ANSWERED, REFUSED, UNUSABLE = 0, 1, 2
 STANDARD_OUTPUT = 1
@@ -43,10 +45,18 @@ def _check(asked):
 
 
 def _study(asked):
-    day = Day.fresh() if asked.day is None else _day_so_far(asked.day)
+    day = _day_so_far(asked.day)
     answer = _studied(day, read_folder(asked.folder, columns.FILES))
     with contextlib.nullcontext() if asked.day is None else replacing(asked.day, day):
         _print(answer)
+
+
+def _preview(asked):
+    day = _day_so_far(asked.day)
+    files = read_folder(asked.folder, columns.FILES)
+    with _telling(files, day):
+        row = day.preview(**files, unit=asked.unit)
+    _print(f"{HEADER}\r\n{row}\r\n".encode())
 
 
 def _release(asked):
@@ -64,10 +74,13 @@ def _tidy(asked):
     _print(tidied)
 
 
-COMMANDS = {"check": _check, "study": _study, "release": _release, "tidy": _tidy}
+COMMANDS = {"check": _check, "study": _study, "preview": _preview, "release": _release, "tidy": _tidy}
 
 
 def _day_so_far(path):
+    """The day in a file; a fresh one where no file is named, or it isn't there yet."""
+    if path is None:
+        return Day.fresh()
     try:
         return read_day(path)
     except FileNotFoundError:

@@ -1,12 +1,14 @@
-"""A day, which studies and releases move on. Assumes nothing of its cells: the engine refuses an ill-formed day with 24."""
+"""A day, which studies and releases move on and previews look at. Assumes nothing of its cells: the engine refuses an ill-formed
+day with 24."""
 import functools
 import operator
 
 from . import words
-from .engine import DAY_CELLS, LONGEST_ANSWER, MOST_64_BIT, DayCells, Report, functions, lent, refuse, written_by
+from .engine import DAY_CELLS, LONGEST_ANSWER, MOST_64_BIT, DayCells, Report, RowCells, functions, lent, refuse, written_by
+from .row import stored
 from .view import lay_down, seen
 
-# No unit has this number, so none is running under it.
+# No unit has this number, so none is running under it, and no file has it.
 NO_UNIT = 0
 
 
@@ -70,11 +72,19 @@ class Day:
         self._cells = cells
         return answer
 
+    def preview(self, constraint, supply, schedules, unit, *, parents=b""):
+        """Looks at the choice for one unit: the row that a study of the files on this day would answer for it, as fields. The
+        day stays as it is. What that study is refused with, this is too, and else with 31 where the unit isn't in supply."""
+        files = lent(constraint, supply, schedules, parents)
+        row, report = RowCells(), Report()
+        functions().capping_preview(self._cells, *files, _lent_number(unit), row, report)
+        refuse(report)
+        return stored(row)
+
     def release(self, unit):
         """Takes a running unit out, and changes nothing else."""
-        unit = operator.index(unit)
         cells, report = self._copied(), Report()
-        functions().capping_day_release(cells, unit if 0 <= unit <= MOST_64_BIT else NO_UNIT, report)
+        functions().capping_day_release(cells, _lent_number(unit), report)
         refuse(report)
         self._cells = cells
 
@@ -95,3 +105,9 @@ class Day:
 
     def __reduce__(self):
         return type(self).from_cells, (self.cells,)
+
+
+def _lent_number(unit):
+    """A unit's number as a call takes it."""
+    unit = operator.index(unit)
+    return unit if 0 <= unit <= MOST_64_BIT else NO_UNIT

@@ -20,9 +20,13 @@ LONGEST_TIDY = {"constraint": 38, "supply": 7964, "schedules": 52284}
 DAY_CELLS = 195
 """How many 64-bit cells a day has."""
 
+ROW_CELLS = 7
+"""How many 64-bit cells a row of the answer file has."""
+
 MOST_64_BIT = 2**64 - 1
 
 DayCells = ctypes.c_uint64 * DAY_CELLS
+RowCells = ctypes.c_uint64 * ROW_CELLS
 Report = ctypes.c_uint64 * 3
 
 
@@ -39,8 +43,9 @@ def _typed(library):
     number, length = ctypes.c_uint64, ctypes.c_size_t
     file = [ctypes.c_char_p, length]
     check = file * 3
+    files = [*check, *file]
     written = [ctypes.c_char_p, length, Report]
-    study = [*check, *file, *written]
+    study = [*files, *written]
     amounts = [ctypes.POINTER(number), length]
     for name, takes, answers in (
         ("capping_check", check, number),
@@ -50,6 +55,7 @@ def _typed(library):
         ("capping_test", [*amounts, number, number, ctypes.POINTER(number)], number),
         ("capping_day_fresh", [DayCells], None),
         ("capping_day_study", [DayCells, *study], number),
+        ("capping_preview", [DayCells, *files, number, RowCells, Report], number),
         ("capping_day_release", [DayCells, number, Report], number),
     ):
         function = getattr(library, name)

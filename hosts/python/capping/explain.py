@@ -13,11 +13,12 @@ MOST_SUPPLIERS = 32
 HOUR_TOO_EARLY = 20
 TOO_MANY_RUNNING = 22
 OF_THE_DAY = range(20, 25)
+NOT_IN_SUPPLY = 31
 
 
 def explained(refused, files, day):
-    """The lines that say why a study of the files on a day, a release from it, or the tidying of a file was refused. The bytes
-    of the files are given by what a study calls them."""
+    """The lines that say why a study or a preview of the files on a day, a release from it, or the tidying of a file was refused.
+    The bytes of the files are given by what a study calls them."""
     lines = [f"refused with {refused.number}: {refused.meaning}"]
     if refused.file != 0:
         lines += DETAILS[refused.number](_spot(files, refusal.FILES[refused.file], refused.place))
@@ -27,6 +28,8 @@ def explained(refused, files, day):
         lines.append(_crowd(_spot(files, "supply"), day))
     if refused.number in OF_THE_DAY:
         lines.append(f"the day: {shown(str(day).encode(), LONGEST_DAY_SHOWN)}")
+    if refused.number == NOT_IN_SUPPLY:
+        lines.append(_units_to_preview(_spot(files, "supply")))
     return [*lines, f"{PAGE} says how to mend it, under {refused.number}"]
 
 
@@ -133,8 +136,17 @@ def _ring(spot):
 
 def _crowd(spot, day):
     running = {unit for unit, _, _ in day.running}
-    filed = {int(row["unit"]) for row in spot.rows()[1:]}
-    return f"units that run already: {len(running)}, further units in {spot.file.name}: {len(filed - running)}"
+    further = _filed_units(spot) - running
+    return f"units that run already: {len(running)}, further units in {spot.file.name}: {len(further)}"
+
+
+def _units_to_preview(spot):
+    units = ", ".join(map(str, sorted(_filed_units(spot))))
+    return f"units in {spot.file.name}: {units or 'none'}"
+
+
+def _filed_units(spot):
+    return {int(row["unit"]) for row in spot.rows()[1:]}
 
 
 ODDS = {

@@ -11,8 +11,13 @@ FOLDER holds constraint.csv, supply.csv and schedules.csv, each of at most
 64 KiB; one that isn't there counts as empty.
 """
 PARENTS = """
-A study reads parents.csv too where FOLDER has it, with the same limit: the
-suppliers that are affiliated. A check takes the three files alone.
+A study and a preview read parents.csv too where FOLDER has it, with the same
+limit: the suppliers that are affiliated. A check takes the three files alone.
+"""
+PREVIEW = """
+A preview prints the header of the answer file and the row of UNIT, as a study
+would now print them, and is refused where that study is. Nothing is moved: the
+FILE of --day is only read.
 """
 TIDY = """
 A tidy file is as the engine understood it: no quotes, CR LF after each record,
@@ -44,11 +49,12 @@ LAYOUT = {"formatter_class": argparse.RawDescriptionHelpFormatter, "allow_abbrev
 def read(arguments):
     """What is asked: the name of a command with its folder, day and unit, or with a path and which file it is. Wrong usage and
     --help end the program."""
-    epilog = FOLDER + PARENTS + DAY + TIDY + REFUSALS
+    epilog = FOLDER + PARENTS + PREVIEW + DAY + TIDY + REFUSALS
     parser = argparse.ArgumentParser(prog="python3 -m capping", description=DESCRIPTION, epilog=epilog, **LAYOUT)
     commands = parser.add_subparsers(dest="command", metavar="COMMAND", required=True)
     _check(commands)
     _study(commands)
+    _preview(commands)
     _release(commands)
     tidy = _tidy(commands)
     asked = parser.parse_args(arguments)
@@ -71,10 +77,19 @@ def _study(commands):
     _takes_day(command, "the day to study on and to move on; fresh if FILE isn't there. Without it, a fresh day")
 
 
+def _preview(commands):
+    does = "look at the row that a study would answer for one unit"
+    epilog = FOLDER + PARENTS + PREVIEW + DAY + REFUSALS
+    command = commands.add_parser("preview", help=does, description=does, epilog=epilog, **LAYOUT)
+    _takes_unit(command)
+    _takes_folder(command)
+    _takes_day(command, "the day that a study would be on; fresh if FILE isn't there. Without it, a fresh day")
+
+
 def _release(commands):
     does = "release a running unit from a day"
     command = commands.add_parser("release", help=does, description=does, epilog=DAY + REFUSALS, **LAYOUT)
-    command.add_argument("unit", metavar="UNIT", type=_unit, help="the unit's number")
+    _takes_unit(command)
     _takes_day(command, "the day that it runs in; FILE must be there", required=True)
 
 
@@ -94,6 +109,10 @@ def _file_by_name(path, command):
 
 def _takes_folder(command):
     command.add_argument("folder", metavar="FOLDER", type=pathlib.Path, help="where the files are")
+
+
+def _takes_unit(command):
+    command.add_argument("unit", metavar="UNIT", type=_unit, help="the unit's number")
 
 
 def _takes_day(command, words, required=False):

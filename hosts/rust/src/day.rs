@@ -4,7 +4,7 @@ use std::fmt::{self, Debug, Formatter};
 
 use crate::engine::{self, Cells};
 use crate::running::{Running, PLACE_CELLS};
-use crate::{written_in, Files, Refusal, LONGEST_ANSWER};
+use crate::{written_in, Files, Refusal, Row, LONGEST_ANSWER};
 
 /// How many cells a day has.
 pub const DAY_CELLS: usize = 195;
@@ -65,6 +65,12 @@ impl Day {
     /// refused study changes none.
     pub fn study_into(&mut self, files: Files, answer: &mut [u8]) -> Result<usize, Refusal> {
         engine::day_study(&mut self.cells, files, answer)
+    }
+
+    /// Looks at the choice for one unit: the row that a study of the files would answer for it. The day stays as it is. What that
+    /// study is refused with, this is too, and else with 31 where the unit isn't in supply.
+    pub fn preview(&self, files: Files, unit: u64) -> Result<Row, Refusal> {
+        engine::preview(&self.cells, files, unit)
     }
 
     /// Takes a running unit out.

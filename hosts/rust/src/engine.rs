@@ -1,8 +1,12 @@
 //! The engine's own functions, each behind a call that no safe program can misuse.
+use crate::row::{Row, ROW_CELLS};
 use crate::{File, Files, Refusal, DAY_CELLS};
 
 /// The cells of a day.
 pub type Cells = [u64; DAY_CELLS];
+
+/// The cells of a row of the answer file.
+type RowCells = [u64; ROW_CELLS];
 
 /// Number, file and place of a refusal; all 0 where a call is accepted.
 type Report = [u64; 3];
@@ -65,7 +69,40 @@ extern "C" {
         report: *mut Report,
     ) -> u64;
 
+    fn capping_preview(
+        day: *const Cells,
+        constraint: *const u8,
+        constraint_len: usize,
+        supply: *const u8,
+        supply_len: usize,
+        schedules: *const u8,
+        schedules_len: usize,
+        parents: *const u8,
+        parents_len: usize,
+        unit: u64,
+        row: *mut RowCells,
+        report: *mut Report,
+    ) -> u64;
+
     fn capping_day_release(day: *mut Cells, unit: u64, report: *mut Report) -> u64;
+}
+
+/// Calls a function that takes the files of a study between its other arguments.
+macro_rules! with_files {
+    ($function:ident, [$($before:expr),*], $files:ident, [$($after:expr),*]) => {
+        $function(
+            $($before,)*
+            $files.constraint.as_ptr(),
+            $files.constraint.len(),
+            $files.supply.as_ptr(),
+            $files.supply.len(),
+            $files.schedules.as_ptr(),
+            $files.schedules.len(),
+            $files.parents.as_ptr(),
+            $files.parents.len(),
+            $($after),*
+        )
+    };
 }
 
 // SAFETY, for each call: a pointer is a slice's or a reference's, so it isn't null, as much as its length says stands there
@@ -87,18 +124,11 @@ pub fn check(constraint: &[u8], supply: &[u8], schedules: &[u8]) -> u64 {
 pub fn study(files: Files, answer: &mut [u8]) -> Result<usize, Refusal> {
     let mut report = [0; 3];
     let count = unsafe {
-        capping_study(
-            files.constraint.as_ptr(),
-            files.constraint.len(),
-            files.supply.as_ptr(),
-            files.supply.len(),
-            files.schedules.as_ptr(),
-            files.schedules.len(),
-            files.parents.as_ptr(),
-            files.parents.len(),
-            answer.as_mut_ptr(),
-            answer.len(),
-            &mut report,
+        with_files!(
+            capping_study,
+            [],
+            files,
+            [answer.as_mut_ptr(), answer.len(), &mut report]
         )
     };
     written(count, report)
@@ -132,46 +162,44 @@ pub fn day_fresh() -> Cells {
 pub fn day_study(day: &mut Cells, files: Files, answer: &mut [u8]) -> Result<usize, Refusal> {
     let mut report = [0; 3];
     let count = unsafe {
-        capping_day_study(
-            day,
-            files.constraint.as_ptr(),
-            files.constraint.len(),
-            files.supply.as_ptr(),
-            files.supply.len(),
-            files.schedules.as_ptr(),
-            files.schedules.len(),
-            files.parents.as_ptr(),
-            files.parents.len(),
-            answer.as_mut_ptr(),
-            answer.len(),
-            &mut report,
+        with_files!(
+            capping_day_study,
+            [day],
+            files,
+            [answer.as_mut_ptr(), answer.len(), &mut report]
         )
     };
     written(count, report)
 }
 
+pub fn preview(day: &Cells, files: Files, unit: u64) -> Result<Row, Refusal> {
+    let mut row = [0; ROW_CELLS];
+    let mut report = [0; 3];
+    unsafe { with_files!(capping_preview, [day], files, [unit, &mut row, &mut report]) };
+    accepted(report)?;
+    Ok(Row::stored(row))
+}
+
 pub fn day_release(day: &mut Cells, unit: u64) -> Result<(), Refusal> {
     let mut report = [0; 3];
-    match unsafe { capping_day_release(day, unit, &mut report) } {
-        0 => Ok(()),
-        _ => Err(refusal(report)),
-    }
+    unsafe { capping_day_release(day, unit, &mut report) };
+    accepted(report)
 }
 
 /// How many bytes a call wrote, by its report.
 fn written(count: u64, report: Report) -> Result<usize, Refusal> {
-    match report {
-        [0, _, _] => {
-            Ok(usize::try_from(count).expect("no more bytes are written than the buffer has"))
-        }
-        _ => Err(refusal(report)),
-    }
+    accepted(report)?;
+    Ok(usize::try_from(count).expect("no more bytes are written than the buffer has"))
 }
 
-fn refusal([number, file, place]: Report) -> Refusal {
-    Refusal {
-        number,
-        file,
-        place,
+/// Whether a call was accepted, by its report.
+fn accepted([number, file, place]: Report) -> Result<(), Refusal> {
+    match number {
+        0 => Ok(()),
+        _ => Err(Refusal {
+            number,
+            file,
+            place,
+        }),
     }
 }

@@ -1,6 +1,6 @@
-//! The offer capping engine as Rust programs call it: check three files, study files on a fresh day or on one that goes on, release
-//! a unit, hand a file back tidy, test one supplier. The engine keeps nothing, and a day is its caller's own, so threads may call at
-//! the same time. A call takes up to 128 KiB of stack.
+//! The offer capping engine as Rust programs call it: check three files, study files on a fresh day or on one that goes on, look
+//! at the choice for one unit before, release a unit, hand a file back tidy, test one supplier. The engine keeps nothing, and a day
+//! is its caller's own, so threads may call at the same time. A call takes up to 128 KiB of stack.
 //!
 //! ```
 //! use capping::Files;
@@ -21,6 +21,8 @@
 //! # let [c, s, h] = ["hour,relief,cutoff\r\n5,1000,300\r\n", "unit,supplier,mw,cost,dfax\r\n11,1,1000,3000,5000\r\n",
 //! #     "unit,schedule,kind,hour,ecomin,price,noload,startup,minrun\r\n11,2,C,5,100,3000,50000,20000,1\r\n"].map(str::as_bytes);
 //! let mut day = Day::fresh();
+//! let row = day.preview(Files::new(c, s, h), 11)?;
+//! assert_eq!(row.to_string(), "11,1,U,0,2,C,1030000"); // the day is still fresh
 //! let answer = day.study(Files::new(c, s, h))?;
 //! let words = day.to_string(); // "5;11:C:2": hour 5, and unit 11 runs on its cost-based schedule 2
 //!
@@ -35,24 +37,19 @@ mod day;
 mod engine;
 mod files;
 mod refusal;
+mod row;
 mod running;
 mod words;
 
 pub use day::{Day, DAY_CELLS};
 pub use files::{File, Files};
 pub use refusal::Refusal;
+pub use row::{Row, Verdict};
 pub use running::{Kind, Running};
 pub use words::ParseDayError;
 
 /// How many bytes the longest answer file has.
 pub const LONGEST_ANSWER: usize = 2799;
-
-/// Whether a supplier passes the test or fails it.
-#[derive(Clone, Copy, Debug, PartialEq, Eq)]
-pub enum Verdict {
-    P,
-    F,
-}
 
 /// Checks three files of a study, each as its bytes: the number of the first refusal, 1 to 9, that a study of them without parents
 /// gives.
@@ -94,7 +91,8 @@ pub fn tidy_into(file: File, bytes: &[u8], tidy: &mut [u8]) -> Result<usize, Ref
     engine::tidy(file, bytes, tidy)
 }
 
-/// Tests the supplier at `place`, counted from 0: what is left without it and its two largest others, and the verdict.
+/// Tests the supplier at `place`, counted from 0: what is left without it and its two largest others, and the verdict, which is
+/// never `U`.
 pub fn test(amounts: &[u64], place: usize, need: u64) -> Result<(u64, Verdict), Refusal> {
     let mut left = 0;
     match engine::test(amounts, place as u64, need, &mut left) {

@@ -28,6 +28,14 @@ impl Kind {
             Kind::C => C,
         }
     }
+
+    pub(crate) fn of_letter(letter: u64) -> Option<Kind> {
+        match letter {
+            M => Some(Kind::M),
+            C => Some(Kind::C),
+            _ => None,
+        }
+    }
 }
 
 impl Running {
@@ -47,11 +55,7 @@ impl Running {
             kind,
             schedule,
         };
-        match letter {
-            M => of_kind(Kind::M),
-            C => of_kind(Kind::C),
-            _ => Running::MISSING,
-        }
+        Kind::of_letter(letter).map_or(Running::MISSING, of_kind)
     }
 
     /// What stands in its place.

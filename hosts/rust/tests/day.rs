@@ -5,24 +5,14 @@ mod common;
 use std::thread;
 
 use capping::{Day, Kind, ParseDayError, Refusal, Running, DAY_CELLS, LONGEST_ANSWER};
-use common::{refused, Files, AFFILIATED_ANSWER, CONSTRAINT, PATTERN, STARRED_ANSWER};
+use common::{crowd, day, refused, with_junk, Files, AFFILIATED_ANSWER, CONSTRAINT, PATTERN};
+use common::{COUNT, JUNK, PLACES, PLACE_CELLS, STARRED_ANSWER, STARRED_DAY};
 
-// Where in the cells what stands.
-const HAS_HOUR: usize = 0;
-const HOUR: usize = 1;
-const COUNT: usize = 2;
-const PLACES: usize = 3;
-const PLACE_CELLS: usize = 3;
+// Where in a unit's cells its kind stands.
 const KIND: usize = 1;
 
 const M: u64 = b'M' as u64;
 const C: u64 = b'C' as u64;
-
-/// Stands where a day has nothing of its own.
-const JUNK: u64 = 77_777;
-
-/// The day after a study of the starred files.
-const STARRED_DAY: &str = "5;11:C:2,12:M:1,13:C:1,14:M:1";
 
 /// The starred answer where all units run: startup isn't paid, and unit 11, which runs on cost, has its cost-based schedule only.
 const ANSWER_WHILE_RUNNING: &str = "unit,supplier,verdict,left,schedule,kind,cost\r\n\
@@ -32,34 +22,9 @@ const ANSWER_WHILE_RUNNING: &str = "unit,supplier,verdict,left,schedule,kind,cos
 const ANSWER_AFTER_RELEASE: &str = "unit,supplier,verdict,left,schedule,kind,cost\r\n\
     11,1,F,0,2,C,1030000\r\n12,2,F,0,1,M,330000\r\n13,3,F,0,1,C,880000\r\n14,4,F,5000000,1,M,500000\r\n";
 
-fn day(words: &str) -> Day {
-    words.parse().expect("words of a day")
-}
-
 fn study(day: &mut Day, files: &Files) -> Result<String, Refusal> {
     day.study(files.studied())
         .map(|answer| String::from_utf8(answer).expect("an answer is ASCII"))
-}
-
-/// The same day in other cells: something stands behind its count and for the hour where it has none, and where it has one,
-/// another number than 1 says so.
-fn with_junk(day: &Day) -> Day {
-    let mut cells = *day.cells();
-    match cells[HAS_HOUR] {
-        0 => cells[HOUR] = JUNK,
-        _ => cells[HAS_HOUR] = JUNK,
-    }
-    let behind = PLACES + PLACE_CELLS * day.running().count();
-    cells[behind..].fill(JUNK);
-    Day::from_cells(cells)
-}
-
-/// Units one after the other, from 101 on, each on its market-based schedule 1.
-fn crowd(count: u64) -> String {
-    let units: Vec<String> = (101..101 + count)
-        .map(|unit| format!("{unit}:M:1"))
-        .collect();
-    units.join(",")
 }
 
 /// That a study is refused, and leaves every cell of the day and every byte of the buffer.
@@ -90,6 +55,7 @@ fn expect_ill_formed(day: &Day) {
     expect_refused_study(day, &no_file, 0, ill_formed);
     for unit in [0, 11, 101, JUNK] {
         expect_refused_release(day, unit, ill_formed);
+        assert_eq!(day.preview(no_file.studied(), unit), Err(ill_formed));
     }
 }
 

@@ -160,7 +160,7 @@ fn refused_tests() {
 #[test]
 fn words_for_every_number() {
     let no_such = refused(99, 0, 0).meaning();
-    for number in (1..=11).chain(20..=24).chain([30, 35, 36]) {
+    for number in (1..=11).chain(20..=24).chain([30, 31, 35, 36]) {
         assert_ne!(refused(number, 0, 0).meaning(), no_such);
     }
 }

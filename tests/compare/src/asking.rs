@@ -17,9 +17,9 @@ pub enum Engine {
 }
 
 /// What was answered, and how a program ended that didn't end well.
-pub struct Answers {
-    pub lines: Vec<String>,
-    pub failure: Option<ExitStatus>,
+struct Answers {
+    lines: Vec<String>,
+    failure: Option<ExitStatus>,
 }
 
 impl Engine {
@@ -39,7 +39,26 @@ impl Engine {
         }
     }
 
-    pub fn ask(&self, batch: &[Asked]) -> io::Result<Answers> {
+    /// Asks a batch, and hands on each case with its answer, up to the first that isn't as it should be.
+    pub fn each_answer(
+        &self,
+        batch: Vec<Asked>,
+        mut hand_on: impl FnMut(Asked, String) -> Result<(), String>,
+    ) -> Result<(), String> {
+        let name = self.name();
+        let Answers { lines, failure } = self.ask(&batch).map_err(|error| format!("{name}: {error}"))?;
+        let mut answers = lines.into_iter();
+        for asked in batch {
+            hand_on(asked, answers.next().unwrap_or_else(|| "(no answer)".to_string()))?;
+        }
+        match (answers.next(), failure) {
+            (Some(answer), _) => Err(format!("one answer more than cases: {answer}")),
+            (None, Some(status)) => Err(format!("{name}: {status}")),
+            (None, None) => Ok(()),
+        }
+    }
+
+    fn ask(&self, batch: &[Asked]) -> io::Result<Answers> {
         match self {
             Engine::Linked(answer) => {
                 let lines = batch.iter().map(|asked| answer(&asked.line)).collect();

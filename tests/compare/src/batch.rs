@@ -1,10 +1,11 @@
-//! One batch: an engine's answers beside the model's, each judged by demand 3 where the study is small.
+//! One batch: an engine's answers beside the model's, each judged by demand 3 where the study is small, and every
+//! row of a study beside its preview.
 
 use capping_model::case::{self, read_hex, Case};
 use capping_model::changes::changed;
 use capping_model::judge::Judge;
 
-use crate::asking::Answers;
+use crate::previews::Previews;
 use crate::run::{Asked, Run};
 use crate::showing::{readable, show_case, show_difference};
 
@@ -13,6 +14,8 @@ use crate::showing::{readable, show_case, show_difference};
 pub struct Compared {
     pub cases: Vec<Answered>,
     pub judged: Judged,
+    /// How many rows of accepted studies were previewed.
+    pub previewed: u64,
 }
 
 /// A case and its right answer.
@@ -30,21 +33,16 @@ pub struct Judged {
 
 /// The batch that begins with an index, or the report of its first difference.
 pub fn compare_batch(run: &Run, first: u64) -> Result<Compared, String> {
-    let name = run.engine.name();
-    let batch = run.batch(first);
-    let Answers { lines, failure } = run.engine.ask(&batch).map_err(|error| format!("{name}: {error}"))?;
     let mut compared = Compared::default();
-    let mut answers = lines.into_iter();
-    for asked in batch {
-        let answer = answers.next().unwrap_or_else(|| "(no answer)".to_string());
+    let mut previews = Previews::default();
+    run.engine.each_answer(run.batch(first), |asked, answer| {
         compared.judged.add(compare_case(run, &asked, &answer)?);
+        previews.add(&asked, &answer);
         compared.cases.push(Answered { line: asked.line, answer });
-    }
-    match (answers.next(), failure) {
-        (Some(answer), _) => Err(format!("one answer more than cases: {answer}")),
-        (None, Some(status)) => Err(format!("{name}: {status}")),
-        (None, None) => Ok(compared),
-    }
+        Ok(())
+    })?;
+    compared.previewed = previews.ask(run)?;
+    Ok(compared)
 }
 
 fn compare_case(run: &Run, asked: &Asked, answer: &str) -> Result<Judged, String> {
@@ -55,9 +53,25 @@ fn compare_case(run: &Run, asked: &Asked, answer: &str) -> Result<Judged, String
     judge(&asked.line, answer).map_err(|report| format!("{report}\n{}", show_case(run, asked)))
 }
 
-/// Judges a small accepted study by demand 3: its answer is accepted, and every changed one rejected.
+/// Judges what a case was answered with by demand 3, where it is an accepted study or a preview of one, and
+/// small.
 fn judge(line: &[u8], answer: &str) -> Result<Judged, String> {
-    let Some((judge, bytes)) = judge_of(line, answer) else { return Ok(Judged::default()) };
+    let shown = answer.strip_prefix("ok ").unwrap_or_default();
+    match Case::read(line) {
+        Some(Case::Study { day, files, parents, .. }) if !shown.is_empty() => {
+            judge_answer(Judge::of(&files.beside(&parents), &day), shown)
+        }
+        Some(Case::Preview { day, files, parents, unit }) if !shown.is_empty() => {
+            judge_row(Judge::of(&files.beside(&parents), &day), unit, shown)
+        }
+        _ => Ok(Judged::default()),
+    }
+}
+
+/// The answer of a study is accepted, and every changed one rejected.
+fn judge_answer(judge: Option<Judge>, shown: &str) -> Result<Judged, String> {
+    let Some(judge) = judge else { return Ok(Judged::default()) };
+    let bytes = shown.split(' ').next().and_then(read_hex).unwrap_or_default();
     judge.weigh(&bytes).map_err(|reason| format!("the judge rejects the answer: {reason}"))?;
     let changes = changed(&bytes, &judge);
     if let Some(change) = changes.iter().find(|change| judge.weigh(change).is_ok()) {
@@ -66,11 +80,12 @@ fn judge(line: &[u8], answer: &str) -> Result<Judged, String> {
     Ok(Judged { accepted: 1, rejected: changes.len() as u64 })
 }
 
-/// The judge of an accepted study, where it is small enough, and the bytes of its answer.
-fn judge_of(line: &[u8], answer: &str) -> Option<(Judge, Vec<u8>)> {
-    let hex = answer.strip_prefix("ok ")?.split(' ').next()?;
-    let Case::Study { day, files, parents, .. } = Case::read(line)? else { return None };
-    Some((Judge::of(&files.beside(&parents), &day)?, read_hex(hex).unwrap_or_default()))
+/// The row of a preview is accepted for its unit.
+fn judge_row(judge: Option<Judge>, unit: u64, shown: &str) -> Result<Judged, String> {
+    let Some(judge) = judge else { return Ok(Judged::default()) };
+    let weighed = judge.weigh_previewed(unit, shown.as_bytes());
+    weighed.map_err(|reason| format!("the judge rejects the previewed row: {reason}"))?;
+    Ok(Judged { accepted: 1, rejected: 0 })
 }
 
 impl Judged {

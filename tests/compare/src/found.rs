@@ -16,6 +16,7 @@ pub struct Found {
     cases: u64,
     tally: Tally,
     judged: Judged,
+    previewed: u64,
 }
 
 impl Found {
@@ -25,6 +26,7 @@ impl Found {
         }
         self.cases += compared.cases.len() as u64;
         self.judged.add(compared.judged);
+        self.previewed += compared.previewed;
     }
 
     /// The report; an error where something was never reached that has to be.
@@ -35,6 +37,7 @@ impl Found {
             report,
             "\njudged by demand 3: {accepted} answers accepted, {rejected} changed ones rejected"
         );
+        let _ = writeln!(report, "rows of accepted studies that previews show too: {}", self.previewed);
         let seconds = time.as_secs_f64();
         let _ = write!(report, "{} cases of seed {}: no difference, {seconds:.1} s", self.cases, run.seed);
         let missing = self.tally.missing();

@@ -10,6 +10,7 @@
 //! | [`run`] | what to run, and the cases of a batch |
 //! | [`asking`] | an engine's answers to a batch |
 //! | [`batch`] | one batch: the answers beside the model's, and judged by demand 3 |
+//! | [`previews`] | every unit of an accepted study, previewed |
 //! | [`found`] | what a run has found, and its report |
 //! | [`comparing`] | all batches, as many at once as the machine has cores |
 //! | [`showing`] | cases and answers as people read them |
@@ -17,6 +18,7 @@
 mod run;
 mod asking;
 mod batch;
+mod previews;
 mod found;
 mod comparing;
 mod showing;

@@ -6,7 +6,7 @@ use capping_model::case::{read_hex, Case};
 
 use crate::run::{Asked, Run};
 
-/// The files of a study; a check has the first three, and one of these is handed back tidy.
+/// The files of a study or a preview; a check has the first three, and one of these is handed back tidy.
 const FILES: [&str; 4] = ["constraint", "supply", "schedules", "parents"];
 
 /// A difference: the case and both answers.
@@ -33,7 +33,9 @@ pub fn show_case(run: &Run, asked: &Asked) -> String {
 /// The files of a case, each with its name.
 fn files_of(line: &[u8]) -> Vec<(&'static str, Vec<u8>)> {
     let (first, files) = match Case::read(line) {
-        Some(Case::Study { files, parents, .. }) => (1, files.0.into_iter().chain([parents]).collect()),
+        Some(Case::Study { files, parents, .. } | Case::Preview { files, parents, .. }) => {
+            (1, files.0.into_iter().chain([parents]).collect())
+        }
         Some(Case::Check { files }) => (1, files.0.to_vec()),
         Some(Case::Tidy { kind, file, .. }) => (kind.number() as usize, vec![file]),
         _ => (1, Vec::new()),
@@ -85,6 +87,7 @@ mod tests {
     fn every_file_of_a_case_is_shown() {
         let files = "constraint\n  a\nsupply\n  b\nschedules\n  c\n";
         assert!(show("study - 61 62 63 64 0").ends_with(&format!("{files}parents\n  d\n")));
+        assert!(show("preview - 61 62 63 64 11").ends_with(&format!("{files}parents\n  d\n")));
         assert!(show("check 61 62 63").ends_with(files));
         assert!(show("tidy 1 61 0").ends_with("tidy 1 61 0\nconstraint\n  a\n"));
         assert!(show("tidy 3 61 0").ends_with("tidy 3 61 0\nschedules\n  a\n"));

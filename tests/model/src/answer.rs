@@ -1,6 +1,8 @@
 //! The answer file: "the header record of the example below, then one row per unit of the supply
 //! file. Unquoted, numerals as above, CR LF after every record, rows by rising unit."
 
+use std::fmt::{self, Display, Formatter};
+
 use crate::choice::Chosen;
 use crate::pivotal::Tested;
 
@@ -20,13 +22,18 @@ pub struct Row {
     pub chosen: Chosen,
 }
 
-/// A row's bytes: "`left` is in the unit of effective supply, `cost` in tenths of a cent".
+/// A row's fields: "`left` is in the unit of effective supply, `cost` in tenths of a cent".
+impl Display for Row {
+    fn fmt(&self, out: &mut Formatter) -> fmt::Result {
+        let Row { unit, supplier, tested, chosen } = self;
+        let (verdict, kind) = (tested.verdict.letter(), chosen.kind.letter());
+        write!(out, "{unit},{supplier},{verdict},{},{},{kind},{}", tested.left, chosen.schedule, chosen.cost)
+    }
+}
+
+/// A row's bytes, with its end.
 fn record(row: &Row) -> Vec<u8> {
-    let Row { unit, supplier, tested, chosen } = row;
-    let (verdict, kind) = (tested.verdict.letter(), chosen.kind.letter());
-    let record =
-        format!("{unit},{supplier},{verdict},{},{},{kind},{}\r\n", tested.left, chosen.schedule, chosen.cost);
-    record.into_bytes()
+    format!("{row}\r\n").into_bytes()
 }
 
 /// How many bytes the answer has.

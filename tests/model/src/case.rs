@@ -6,12 +6,14 @@
 //! test NEED PLACE a,b,c      ok LEFT P   or   ok LEFT F   or   no 11 0 0
 //! check C S H                NUMBER
 //! tidy N FILE BUFLEN         ok TIDYHEX         or   no NUMBER FILE PLACE
+//! preview DAY C S H P UNIT   ok ROW             or   no NUMBER FILE PLACE
 //! ```
 //!
 //! DAY is `-` for a fresh day or `H;u:k:s,u:k:s`: H the hour or `n` for none, u a unit, k its kind, s
 //! its schedule. C, S, H and P are the files constraint, supply, schedules and parents in lower-case
 //! hex, `.` for an empty file; `.` stands for no amounts too. FILE is constraint, supply or schedules in
-//! the same form, and N its number. Whatever isn't in this form is answered by `unreadable case`.
+//! the same form, and N its number. ROW is a row of the answer file as it stands there, without its end:
+//! `U,S,V,LEFT,SCHEDULE,KIND,COST`. Whatever isn't in this form is answered by `unreadable case`.
 
 use std::fmt::{self, Display, Formatter, Write};
 
@@ -63,6 +65,7 @@ pub enum Case {
     Test { need: u64, place: u64, amounts: Vec<u64> },
     Check { files: ThreeFiles },
     Tidy { kind: FileKind, file: Vec<u8>, buffer: u64 },
+    Preview { day: Day, files: ThreeFiles, parents: Vec<u8>, unit: u64 },
 }
 
 /// The answer to a line.
@@ -97,6 +100,12 @@ impl Case {
                 file: read_hex(file)?,
                 buffer: read_length(buffer, LONGEST_TIDY_BUFFER)?,
             }),
+            ["preview", day, c, s, h, p, unit] => Some(Case::Preview {
+                day: read_day(day)?,
+                files: read_files([c, s, h])?,
+                parents: read_hex(p)?,
+                unit: read_number(unit)?,
+            }),
             _ => None,
         }
     }
@@ -115,6 +124,10 @@ impl Case {
             },
             Case::Check { files } => check(files.lend()).to_string(),
             Case::Tidy { kind, file, buffer } => answer_tidy(kind, &file, buffer),
+            Case::Preview { day, files, parents, unit } => match day.preview(&files.beside(&parents), unit) {
+                Ok(row) => format!("ok {row}"),
+                Err(refusal) => refusal.to_string(),
+            },
         }
     }
 }
@@ -195,6 +208,9 @@ impl Display for Case {
             Case::Check { files } => write!(out, "check {files}"),
             Case::Tidy { kind, file, buffer } => {
                 write!(out, "tidy {} {} {buffer}", kind.number(), Hex(file))
+            }
+            Case::Preview { day, files, parents, unit } => {
+                write!(out, "preview {day} {files} {} {unit}", Hex(parents))
             }
         }
     }
@@ -290,6 +306,7 @@ fn read_running(text: &str) -> Option<Running> {
 #[cfg(test)]
 mod tests {
     use super::*;
+    use crate::study::tests::Bytes;
 
     fn ask(line: &str) -> String {
         answer(line.as_bytes())
@@ -329,6 +346,16 @@ mod tests {
         assert_eq!(ask(&format!("tidy 1 {HEADER} 0")), "no 4 1 0");
         assert_eq!(ask(&format!("tidy 2 {bare} 65536")), "no 2 2 0");
         assert_eq!(ask("tidy 3 . 65536"), "no 2 3 0");
+    }
+
+    #[test]
+    fn previews() {
+        let bytes = Bytes::starred();
+        let [c, s, h] = bytes.three().map(Hex);
+        assert_eq!(ask(&format!("preview - {c} {s} {h} . 14")), "ok 14,4,F,5000000,1,M,500000");
+        assert_eq!(ask(&format!("preview - {c} {s} {h} . 15")), "no 31 0 0");
+        assert_eq!(ask(&format!("preview 6; {c} {s} {h} . 15")), "no 20 0 0");
+        assert_eq!(ask("preview - . . . . 0"), "no 2 1 0");
     }
 
     #[test]
@@ -378,6 +405,15 @@ mod tests {
             "tidy 1 0 1",
             "tidy 1 . 65537",
             "tidy 1 . . 1",
+            "preview",
+            "preview - . . . 11",
+            "preview - . . . .",
+            "preview - . . . . .",
+            "preview - . . . . 011",
+            "preview - . . . . 18446744073709551616",
+            "preview - . . . . 11 4096",
+            "preview - . . . 0 11",
+            "preview 5 . . . . 11",
         ];
         for line in lines {
             assert_eq!(ask(line), UNREADABLE, "{line}");
@@ -395,6 +431,7 @@ mod tests {
             "check . . 61",
             "tidy 1 . 0",
             "tidy 3 0aff 65536",
+            "preview 7;1:M:2 0aff . 00 0d0a 18446744073709551615",
         ] {
             assert_eq!(Case::read(line.as_bytes()).unwrap().to_string(), line);
         }

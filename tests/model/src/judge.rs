@@ -68,6 +68,8 @@ struct Shown {
 /// Why bytes are rejected.
 pub type Reason = &'static str;
 
+const OUT_OF_LAYOUT: Reason = "a record out of the layout";
+
 /// Rejects with a reason where something doesn't hold.
 fn hold(condition: bool, reason: Reason) -> Result<(), Reason> {
     if condition {
@@ -103,6 +105,15 @@ impl Judge {
             rest = after;
         }
         hold(rest.is_empty(), "more than one row per unit")
+    }
+
+    /// Accepts the record of an answer file that a preview shows for a unit, or says what of demand 3 it
+    /// breaks.
+    pub fn weigh_previewed(&self, unit: u64, record: &[u8]) -> Result<(), Reason> {
+        let supplied = self.units.iter().find(|supplied| supplied.number == unit);
+        let row = read_record(record).ok_or(OUT_OF_LAYOUT)?;
+        hold(row.unit == unit, "the row of another unit")?;
+        self.weigh_row(&row, supplied.ok_or("a row of a unit that isn't in supply")?)
     }
 
     /// "The following holds of every row."
@@ -306,7 +317,7 @@ fn cost_of_hour(row: &Schedule) -> u64 {
 /// The row that a part of the bytes begins with, and the rest.
 fn read_row(bytes: &[u8]) -> Result<(Shown, &[u8]), Reason> {
     let end = bytes.windows(2).position(|pair| pair == b"\r\n").ok_or("a record without its end")?;
-    let shown = read_record(&bytes[..end]).ok_or("a record out of the layout")?;
+    let shown = read_record(&bytes[..end]).ok_or(OUT_OF_LAYOUT)?;
     Ok((shown, &bytes[end + 2..]))
 }
 
@@ -432,6 +443,21 @@ mod tests {
         assert_eq!(joined(&["1,2", "8,9"]), [Group::from([3]), Group::from([4]), Group::from([1, 2])]);
         let all = Group::from([1, 2, 3, 4, 7, 8]);
         assert_eq!(joined(&["1,7", "2,8", "3,8", "7,2", "8,4"]), [all]);
+    }
+
+    #[test]
+    fn a_previewed_row_is_weighed_for_its_unit() {
+        let judge = Judge::of(&Bytes::starred().files(), &Day::fresh()).unwrap();
+        let weigh = |unit: u64, record: &str| judge.weigh_previewed(unit, record.as_bytes());
+        for (unit, record) in (11..=14).zip(&STARRED[1..5]) {
+            assert_eq!(weigh(unit, record), Ok(()));
+            assert_eq!(weigh(unit, &format!("{record}\r\n")), Err("a record out of the layout"));
+        }
+        assert_eq!(weigh(11, STARRED[2]), Err("the row of another unit"));
+        assert_eq!(weigh(15, "15,4,F,5000000,1,M,500000"), Err("a row of a unit that isn't in supply"));
+        assert_eq!(weigh(14, "14,14,F,5000000,1,M,500000"), Err("not its supplier"));
+        assert_eq!(weigh(14, "14,4,F,0,1,M,500000"), Err("an amount that no removal leaves"));
+        assert_eq!(weigh(11, "11,1,F,0,1,M,1100000"), Err("another schedule comes before"));
     }
 
     #[test]

@@ -1,5 +1,5 @@
-//! The offer capping engine, written down from document 01, with requests F-1 and F-6 of document 02, and
-//! from nothing else.
+//! The offer capping engine, written down from document 01, with requests F-1, F-2 and F-6 of document 02,
+//! and from nothing else.
 //!
 //! It is a model: every function says one sentence of the paper, nothing is tuned, and whoever
 //! doubts an engine can read here what the paper asks. The modules stand in the paper's order.
@@ -16,6 +16,7 @@
 //! | [`day`] | the hour and the running units; release |
 //! | [`answer`] | the answer file |
 //! | [`study`] | everything above in the order of the refusals |
+//! | [`preview`] | the answer row of one unit, and the refusal 31 |
 //! | [`check`] | the check for host programs |
 //! | [`tidy`] | a file handed back tidy, and the refusal 30 |
 //!
@@ -38,6 +39,7 @@ pub mod choice;
 pub mod day;
 pub mod answer;
 pub mod study;
+pub mod preview;
 pub mod check;
 pub mod tidy;
 

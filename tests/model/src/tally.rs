@@ -1,11 +1,14 @@
-//! How often each refusal and each verdict was reached by the cases of a run, what parents did, and what
-//! was handed back tidy.
+//! How often each refusal and each verdict was reached by the cases of a run, what parents did, what was
+//! handed back tidy, and what was previewed.
 
 use std::collections::BTreeMap;
 use std::fmt::{self, Display, Formatter};
+use std::ops::RangeInclusive;
 
-use crate::case::{read_hex, Case, UNREADABLE};
+use crate::case::{read_hex, Case, ThreeFiles, UNREADABLE};
+use crate::day::Day;
 use crate::grouping::Grouping;
+use crate::table::read_supply;
 
 /// Something that a case can reach.
 #[derive(Clone, Copy, Debug, PartialEq, Eq, PartialOrd, Ord)]
@@ -43,7 +46,27 @@ pub enum Reached {
     TidyFitting(u64),
     /// .. and one with as many rows as there may be.
     TidyFull(u64),
+    /// A refusal of a preview, by number and file.
+    NotPreviewed(u64, u64),
+    /// A refusal, by its number, of a preview whose unit the supply file doesn't have: 31 comes after it.
+    BeforeThirtyOne(u64),
+    /// A preview refused with 31, of a unit that the day has running, ..
+    AbsentRunning,
+    /// .. and one of a number that no unit has.
+    AbsentBeyond,
+    /// A previewed row, by its verdict, ..
+    Previewed(char),
+    /// .. one that is another on a fresh day, ..
+    PreviewedByDay,
+    /// .. and one that is another without parents.
+    PreviewedByParents,
 }
+
+/// The verdicts of a study's rows.
+const VERDICTS: [char; 3] = ['U', 'P', 'F'];
+
+/// The numbers that a unit can have.
+const UNITS: RangeInclusive<u64> = 1..=9_999;
 
 /// The files, as refusals name them; 0 for none.
 const FILES: [u64; 5] = [0, 1, 2, 3, 5];
@@ -86,6 +109,37 @@ const TIDIED: [(&str, ByFile); 4] = [
     ("tidy already", Reached::AlreadyTidy),
     ("in a fitting buffer", Reached::TidyFitting),
     ("of all rows", Reached::TidyFull),
+];
+
+/// The refusals of a preview.
+const PREVIEW_REFUSALS: [Named; 16] = [
+    (1, &[1, 2, 3, 5]),
+    (2, &[1, 2, 3, 5]),
+    (3, &[1, 2, 3, 5]),
+    (4, &[1, 2, 3, 5]),
+    (5, &[2]),
+    (6, &[2, 3]),
+    (7, &[3]),
+    (8, &[3]),
+    (9, &[3]),
+    (20, &[0]),
+    (21, &[3]),
+    (22, &[0]),
+    (24, &[0]),
+    (31, &[0]),
+    (35, &[5]),
+    (36, &[5]),
+];
+
+/// The refusal of a preview that comes after all others.
+const ABSENT: u64 = 31;
+
+/// What else can be said of a preview, in words.
+const LOOKED_AT: [(&str, Reached); 4] = [
+    ("31 of a running unit", Reached::AbsentRunning),
+    ("31 of a number that no unit has", Reached::AbsentBeyond),
+    ("another row than on a fresh day", Reached::PreviewedByDay),
+    ("another row than without parents", Reached::PreviewedByParents),
 ];
 
 /// What else parents can do in an accepted study, in words.
@@ -162,6 +216,23 @@ impl Tally {
         Ok(())
     }
 
+    /// What was previewed.
+    fn show_previews(&self, out: &mut Formatter) -> fmt::Result {
+        writeln!(out, "preview    file 0    file 1    file 2    file 3    file 5")?;
+        self.show_refusals(&PREVIEW_REFUSALS, &FILES, Reached::NotPreviewed, out)?;
+        write!(out, "of a unit not in supply, before 31")?;
+        for number in before_thirty_one() {
+            write!(out, "  {number}: {}", self.of(Reached::BeforeThirtyOne(number)))?;
+        }
+        let [untested, passed, failed] = VERDICTS.map(|verdict| self.of(Reached::Previewed(verdict)));
+        let accepted = untested + passed + failed;
+        write!(out, "\npreviews accepted: {accepted}, rows U: {untested}, P: {passed}, F: {failed}")?;
+        for (what, reached) in LOOKED_AT {
+            write!(out, ", {what}: {}", self.of(reached))?;
+        }
+        writeln!(out)
+    }
+
     /// A line for each refusal, with a count for each file that it can name.
     fn show_refusals(
         &self,
@@ -190,6 +261,11 @@ fn each(refusals: &[Named], reached: fn(u64, u64) -> Reached) -> Vec<Reached> {
     refusals.iter().flat_map::<Vec<Reached>, _>(of_files).collect()
 }
 
+/// The refusals of a preview that come before 31.
+fn before_thirty_one() -> impl Iterator<Item = u64> {
+    PREVIEW_REFUSALS.into_iter().map(|(number, _)| number).filter(|&number| number != ABSENT)
+}
+
 /// Everything that a right engine can be brought to.
 fn can_occur() -> Vec<Reached> {
     let mut all = each(&REFUSALS, Reached::Refusal);
@@ -197,8 +273,12 @@ fn can_occur() -> Vec<Reached> {
     for (_, reached) in TIDIED {
         all.extend([1, 2, 3].map(reached));
     }
+    all.extend(each(&PREVIEW_REFUSALS, Reached::NotPreviewed));
+    all.extend(before_thirty_one().map(Reached::BeforeThirtyOne));
+    all.extend(VERDICTS.map(Reached::Previewed));
+    all.extend(LOOKED_AT.map(|(_, reached)| reached));
     all.extend((0..=9).map(Reached::Check));
-    all.extend(['U', 'P', 'F'].map(Reached::Row));
+    all.extend(VERDICTS.map(Reached::Row));
     all.extend(['P', 'F'].map(Reached::Test));
     all.extend([Reached::Study, Reached::Release, Reached::Unreadable]);
     for (number, places) in PLACES {
@@ -215,6 +295,7 @@ fn reached(case: &[u8], answer: &str) -> Vec<Reached> {
     let words: Vec<&str> = answer.split(' ').collect();
     match (asked, &words[..]) {
         _ if answer == UNREADABLE => vec![Reached::Unreadable],
+        (b"preview", _) => reached_by_preview(case, answer),
         (_, ["no", number @ ("35" | "36"), file, place]) => {
             let number = count(number);
             vec![Reached::Refusal(number, count(file)), Reached::Place(number, band(count(place)))]
@@ -262,6 +343,40 @@ fn reached_by_tidy(case: &[u8], hex: &str) -> Vec<Reached> {
     found.into_iter().filter(|(reached, _)| *reached).map(|(_, what)| what).collect()
 }
 
+/// What a preview reached.
+fn reached_by_preview(case: &[u8], answer: &str) -> Vec<Reached> {
+    let Some(Case::Preview { day, files, parents, unit }) = Case::read(case) else { return Vec::new() };
+    let words: Vec<&str> = answer.split([' ', ',']).collect();
+    let (what, found) = match words[..] {
+        ["no", number, file, _] => {
+            let number = count(number);
+            let found = vec![
+                (number != ABSENT && !supplies(&files, unit), Reached::BeforeThirtyOne(number)),
+                (number == ABSENT && day.kind_of(unit).is_some(), Reached::AbsentRunning),
+                (number == ABSENT && !UNITS.contains(&unit), Reached::AbsentBeyond),
+            ];
+            (Reached::NotPreviewed(number, count(file)), found)
+        }
+        ["ok", _, _, verdict, ..] => {
+            let other = |day, parents| Case::Preview { day, files: files.clone(), parents, unit }.answer();
+            let found = vec![
+                (other(Day::fresh(), parents) != answer, Reached::PreviewedByDay),
+                (other(day, Vec::new()) != answer, Reached::PreviewedByParents),
+            ];
+            (Reached::Previewed(verdict.chars().next().unwrap_or_default()), found)
+        }
+        _ => return Vec::new(),
+    };
+    let found = found.into_iter().filter(|(reached, _)| *reached).map(|(_, what)| what);
+    [what].into_iter().chain(found).collect()
+}
+
+/// Whether the supply file can be read and has the unit.
+fn supplies(files: &ThreeFiles, unit: u64) -> bool {
+    let [_, supply, _] = files.lend();
+    read_supply(supply).is_ok_and(|rows| rows.iter().any(|row| row.unit == unit))
+}
+
 fn count(word: &str) -> u64 {
     word.parse().unwrap_or(u64::MAX)
 }
@@ -282,7 +397,7 @@ impl Display for Tally {
             write!(out, "  {number}: {}", self.of(Reached::Check(number)))?;
         }
         writeln!(out)?;
-        let rows = ['U', 'P', 'F'].map(|verdict| self.of(Reached::Row(verdict)));
+        let rows = VERDICTS.map(|verdict| self.of(Reached::Row(verdict)));
         let studies = self.of(Reached::Study);
         writeln!(out, "studies  accepted: {studies}, rows U: {}, P: {}, F: {}", rows[0], rows[1], rows[2])?;
         let tests = ['P', 'F'].map(|verdict| self.of(Reached::Test(verdict)));
@@ -290,6 +405,7 @@ impl Display for Tally {
         writeln!(out, "releases accepted: {}", self.of(Reached::Release))?;
         self.show_parents(out)?;
         self.show_tidy(out)?;
+        self.show_previews(out)?;
         write!(out, "unreadable: {}", self.of(Reached::Unreadable))
     }
 }
@@ -341,6 +457,25 @@ mod tests {
         assert_eq!(reached("", 29), [Reached::NotTidied(2, 2)]);
         let full = format!("{header}{}", "\r\n1,1,1,1,1".repeat(256));
         assert_eq!(reached(&full, 65_536), [Reached::Tidied(2), Reached::TidyFull(2)]);
+    }
+
+    #[test]
+    fn previews_count_by_what_they_show() {
+        let bytes = Bytes::starred().with_parents(&["1,2"]);
+        let [c, s, h] = bytes.three().map(Hex);
+        let reached = |day: &str, unit: u64| {
+            let line = format!("preview {day} {c} {s} {h} {} {unit}", Hex(bytes.files().parents));
+            reached(line.as_bytes(), &case::answer(line.as_bytes()))
+        };
+        assert_eq!(reached("-", 11), [Reached::Previewed('F')]);
+        assert_eq!(reached("-", 14), [Reached::Previewed('F'), Reached::PreviewedByParents]);
+        assert_eq!(reached("5;11:C:2", 11), [Reached::Previewed('F'), Reached::PreviewedByDay]);
+        assert_eq!(reached("-", 15), [Reached::NotPreviewed(31, 0)]);
+        assert_eq!(reached("5;15:C:2", 15), [Reached::NotPreviewed(31, 0), Reached::AbsentRunning]);
+        assert_eq!(reached("-", 0), [Reached::NotPreviewed(31, 0), Reached::AbsentBeyond]);
+        assert_eq!(reached("6;", 11), [Reached::NotPreviewed(20, 0)]);
+        assert_eq!(reached("6;", 15), [Reached::NotPreviewed(20, 0), Reached::BeforeThirtyOne(20)]);
+        assert_eq!(super::reached(b"preview - . . . .", UNREADABLE), [Reached::Unreadable]);
     }
 
     #[test]

@@ -1,6 +1,6 @@
 //! What a line asks, read from its words. Assumes nothing of the line, which may be of any length.
 
-use capping::{Day, File};
+use capping::{Day, File, Files};
 
 use crate::hex;
 
@@ -14,9 +14,25 @@ const MOST_AMOUNTS: usize = 1_000;
 /// The bytes of constraint, supply and schedules.
 pub type ThreeFiles = [Vec<u8>; 3];
 
+/// The bytes of a study's files.
+#[derive(Debug, PartialEq, Eq)]
+pub struct StudyFiles {
+    three: ThreeFiles,
+    parents: Vec<u8>,
+}
+
+impl StudyFiles {
+    /// The files as a study and a preview take them.
+    pub fn lent(&self) -> Files<'_> {
+        let [constraint, supply, schedules] = &self.three;
+        Files::new(constraint, supply, schedules).with_parents(&self.parents)
+    }
+}
+
 #[derive(Debug, PartialEq, Eq)]
 pub enum Asked {
-    Study { day: Day, files: ThreeFiles, parents: Vec<u8>, lent: usize },
+    Study { day: Day, files: StudyFiles, lent: usize },
+    Preview { day: Day, files: StudyFiles, unit: u64 },
     Release { day: Day, unit: u64 },
     Tidy { file: File, bytes: Vec<u8>, lent: usize },
     Test { need: u64, place: usize, amounts: Vec<u64> },
@@ -30,9 +46,13 @@ impl Asked {
         match words[..] {
             [b"study", day, c, s, h, p, lent] => Some(Asked::Study {
                 day: read_day(day)?,
-                files: read_files(c, s, h)?,
-                parents: hex::read(p)?,
+                files: read_study_files(c, s, h, p)?,
                 lent: read_lent(lent, LONGEST_BUFFER)?,
+            }),
+            [b"preview", day, c, s, h, p, unit] => Some(Asked::Preview {
+                day: read_day(day)?,
+                files: read_study_files(c, s, h, p)?,
+                unit: read_number(unit)?,
             }),
             [b"release", day, unit] => Some(Asked::Release { day: read_day(day)?, unit: read_number(unit)? }),
             [b"tidy", number, file, lent] => Some(Asked::Tidy {
@@ -57,6 +77,15 @@ fn read_day(word: &[u8]) -> Option<Day> {
 
 fn read_files(constraint: &[u8], supply: &[u8], schedules: &[u8]) -> Option<ThreeFiles> {
     Some([hex::read(constraint)?, hex::read(supply)?, hex::read(schedules)?])
+}
+
+fn read_study_files(
+    constraint: &[u8],
+    supply: &[u8],
+    schedules: &[u8],
+    parents: &[u8],
+) -> Option<StudyFiles> {
+    Some(StudyFiles { three: read_files(constraint, supply, schedules)?, parents: hex::read(parents)? })
 }
 
 fn read_file_number(word: &[u8]) -> Option<File> {
@@ -114,9 +143,14 @@ mod tests {
     #[test]
     fn each_case() {
         let files = || [vec![0x0a, 0xff], vec![], vec![0]];
+        let with_parents = || StudyFiles { three: files(), parents: vec![1, 2] };
         assert_eq!(
             read("study 5;1:M:2 0aff . 00 0102 12"),
-            Some(Asked::Study { day: day("5;1:M:2"), files: files(), parents: vec![1, 2], lent: 12 })
+            Some(Asked::Study { day: day("5;1:M:2"), files: with_parents(), lent: 12 })
+        );
+        assert_eq!(
+            read("preview 24;1:M:2 0aff . 00 0102 7"),
+            Some(Asked::Preview { day: day("24;1:M:2"), files: with_parents(), unit: 7 })
         );
         assert_eq!(read("release - 7"), Some(Asked::Release { day: Day::fresh(), unit: 7 }));
         for (number, file) in [(1, File::Constraint), (2, File::Supply), (3, File::Schedules)] {
@@ -130,14 +164,17 @@ mod tests {
 
     #[test]
     fn numbers_up_to_64_bits() {
-        let unit = |word: &str| read(&format!("release - {word}"));
+        let release = |word: &str| read(&format!("release - {word}"));
+        let preview = |word: &str| read(&format!("preview - . . . . {word}"));
         let largest = Asked::Release { day: Day::fresh(), unit: u64::MAX };
-        assert_eq!(unit("18446744073709551615"), Some(largest));
-        for word in ["18446744073709551616", "18446744073709551625", "99999999999999999999", "", "00", "07"] {
-            assert_eq!(unit(word), None, "{word}");
-        }
-        for word in ["+7", "-7", "7\r", "7x", "x", "\u{0667}"] {
-            assert_eq!(unit(word), None, "{word}");
+        assert_eq!(release("18446744073709551615"), Some(largest));
+        let is_largest = |asked| matches!(asked, Asked::Preview { unit: u64::MAX, .. });
+        assert!(preview("18446744073709551615").is_some_and(is_largest));
+        let too_large = ["18446744073709551616", "18446744073709551625", "99999999999999999999"];
+        let no_numeral = ["", "00", "07", "+7", "-7", "7\r", "7x", "x", "\u{0667}"];
+        for word in too_large.iter().chain(&no_numeral) {
+            assert_eq!(release(word), None, "{word}");
+            assert_eq!(preview(word), None, "{word}");
         }
     }
 
@@ -163,10 +200,14 @@ mod tests {
         let file = "61".repeat(1 << 20);
         let files = || [vec![0x61; 1 << 20], vec![0x61; 1 << 20], vec![0x61; 1 << 20]];
         assert_eq!(read(&format!("check {file} {file} {file}")), Some(Asked::Check { files: files() }));
-        let parents = vec![0x61; 1 << 20];
+        let with_parents = || StudyFiles { three: files(), parents: vec![0x61; 1 << 20] };
         assert_eq!(
             read(&format!("study - {file} {file} {file} {file} 7")),
-            Some(Asked::Study { day: Day::fresh(), files: files(), parents, lent: 7 })
+            Some(Asked::Study { day: Day::fresh(), files: with_parents(), lent: 7 })
+        );
+        assert_eq!(
+            read(&format!("preview - {file} {file} {file} {file} 7")),
+            Some(Asked::Preview { day: Day::fresh(), files: with_parents(), unit: 7 })
         );
     }
 
@@ -189,6 +230,19 @@ mod tests {
             "study - . . . 0A 1",
             "study - .. . . . 1",
             "study -  . . . 1",
+            "preview",
+            "preview 7",
+            "preview - . . . 7",
+            "preview - . . . .",
+            "preview - . . . . ",
+            "preview - . . . . 7 ",
+            "preview - . . . . 7 7",
+            "preview - . . . . . 7",
+            "preview  . . . . 7",
+            "preview 5 . . . . 7",
+            "preview - 0 . . . 7",
+            "preview - . . . 0A 7",
+            "Preview - . . . . 7",
             "release",
             "release -",
             "release - ",

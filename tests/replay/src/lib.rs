@@ -3,6 +3,7 @@
 //!
 //! ```text
 //! study DAY C S H P BUFLEN   ok ANSWERHEX DAY   or   no NUMBER FILE PLACE
+//! preview DAY C S H P UNIT   ok U,S,V,LEFT,SCHEDULE,KIND,COST   or   no NUMBER FILE PLACE
 //! release DAY UNIT           ok DAY             or   no NUMBER FILE PLACE
 //! tidy N FILE BUFLEN         ok TIDYHEX         or   no NUMBER FILE PLACE
 //! test NEED PLACE a,b,c      ok LEFT P   or   ok LEFT F   or   no 11 0 0
@@ -11,7 +12,7 @@
 //!
 //! DAY is a day in the words of `hosts/rust`. C, S, H and P are the files, P the parents, in lower-case
 //! hex, `.` for an empty file, and so is FILE, which N says is 1 the constraint, 2 supply or 3 schedules;
-//! `.` stands for no amounts too. Whatever isn't in this form is answered by
+//! `.` stands for no amounts too. UNIT is any 64-bit number. Whatever isn't in this form is answered by
 //! `unreadable case`, and a case in which the engine changed what it had to leave alone by `spoilt`.
 //!
 //! The model reads the same lines. Nothing of its reader is used here, so that the two are held against
@@ -20,7 +21,9 @@
 mod asked;
 mod hex;
 
-use capping::{Day, File, Files, Refusal, Verdict};
+use std::hint::black_box;
+
+use capping::{Day, File, Files, Refusal, Row};
 
 use asked::{Asked, LONGEST_BUFFER, LONGEST_TIDY_BUFFER};
 use hex::Hex;
@@ -31,15 +34,15 @@ const PATTERN: u8 = 0xA5;
 /// The answer to a line that can't be read.
 const UNREADABLE: &str = "unreadable case";
 
-/// The answer where a byte behind what is written, or with a refusal any byte or a cell of the day, changed.
+/// The answer where a byte behind what is written, or with a refusal any byte or a cell of the day, changed;
+/// a preview may change no cell of the day at all.
 const SPOILT: &str = "spoilt";
 
 /// The answer to a line, which is given without its end.
 pub fn answer(line: &[u8]) -> String {
     match Asked::read(line) {
-        Some(Asked::Study { day, files: [c, s, h], parents, lent }) => {
-            study(day, Files::new(&c, &s, &h).with_parents(&parents), lent)
-        }
+        Some(Asked::Study { day, files, lent }) => study(day, files.lent(), lent),
+        Some(Asked::Preview { day, files, unit }) => preview(day, files.lent(), unit),
         Some(Asked::Release { day, unit }) => release(day, unit),
         Some(Asked::Tidy { file, bytes, lent }) => tidy(file, &bytes, lent),
         Some(Asked::Test { need, place, amounts }) => test(&amounts, place, need),
@@ -61,6 +64,22 @@ fn say_studied(result: Result<usize, Refusal>, buffer: &[u8], given: &Day, after
         Some(Ok(answer)) => format!("ok {} {after}", Hex(answer)),
         Some(Err(refusal)) => say_refused(refusal, given, after),
         None => SPOILT.to_string(),
+    }
+}
+
+/// The compiler takes it that a day which is only borrowed stays the same, and leaves the comparison out unless
+/// the day is hidden from it.
+fn preview(given: Day, files: Files, unit: u64) -> String {
+    let day = given.clone();
+    let result = day.preview(files, unit);
+    say_previewed(result, &given, black_box(&day))
+}
+
+fn say_previewed(result: Result<Row, Refusal>, given: &Day, after: &Day) -> String {
+    match result {
+        _ if after.cells() != given.cells() => SPOILT.to_string(),
+        Ok(row) => format!("ok {row}"),
+        Err(refusal) => say_no(refusal),
     }
 }
 
@@ -110,8 +129,7 @@ fn release(given: Day, unit: u64) -> String {
 
 fn test(amounts: &[u64], place: usize, need: u64) -> String {
     match capping::test(amounts, place, need) {
-        Ok((left, Verdict::P)) => format!("ok {left} P"),
-        Ok((left, Verdict::F)) => format!("ok {left} F"),
+        Ok((left, verdict)) => format!("ok {left} {verdict}"),
         Err(refusal) => say_no(refusal),
     }
 }
@@ -122,6 +140,8 @@ fn check(constraint: &[u8], supply: &[u8], schedules: &[u8]) -> String {
 
 #[cfg(test)]
 mod tests {
+    use capping::{Kind, Verdict};
+
     use super::*;
 
     fn ask(line: &str) -> String {
@@ -137,6 +157,15 @@ mod tests {
         let mut buffer = vec![PATTERN; LONGEST_BUFFER];
         buffer[..written.len()].copy_from_slice(written);
         buffer
+    }
+
+    /// The same day with something behind its units.
+    fn with_a_cell_changed(given: &Day) -> Day {
+        let mut cells = *given.cells();
+        *cells.last_mut().expect("a day has cells") = 1;
+        let changed = Day::from_cells(cells);
+        assert_eq!(&changed, given);
+        changed
     }
 
     /// Document 01's starred example, as the words of a line.
@@ -185,6 +214,32 @@ mod tests {
         assert_eq!(study("1,2\r\n"), ok_starred(AFFILIATED_ANSWER));
         assert_eq!(study("1,2\r\n1,2\r\n"), "no 35 5 2");
         assert_eq!(study("1,2\r\n2,3\r\n3,2\r\n"), "no 36 5 2");
+    }
+
+    #[test]
+    fn previews() {
+        let preview = |day: &str, unit: u64| ask(&format!("preview {day} {} . {unit}", starred()));
+        assert_eq!(preview("-", 11), "ok 11,1,F,0,2,C,1030000");
+        assert_eq!(preview("-", 14), "ok 14,4,F,5000000,1,M,500000");
+        assert_eq!(preview("n;14:C:2", 14), "ok 14,4,F,5000000,2,C,220000");
+        assert_eq!(preview("-", 15), "no 31 0 0");
+        assert_eq!(preview("5;15:M:1", 15), "no 31 0 0");
+        assert_eq!(preview("-", u64::MAX), "no 31 0 0");
+        assert_eq!(preview("6;", 15), "no 20 0 0");
+        assert_eq!(preview("24;", 15), "no 24 0 0");
+        assert_eq!(preview("5;12:M:1,11:M:1", 14), "no 24 0 0");
+        assert_eq!(ask("preview - . . . . 14"), "no 2 1 0");
+    }
+
+    #[test]
+    fn previews_with_parents() {
+        let preview = |rows: &str, unit: u64| {
+            let parents = format!("supplier,parent\r\n{rows}");
+            ask(&format!("preview - {} {} {unit}", starred(), Hex(parents.as_bytes())))
+        };
+        assert_eq!(preview("1,2\r\n", 14), "ok 14,4,F,0,1,M,500000");
+        assert_eq!(preview("1,2\r\n1,2\r\n", 15), "no 35 5 2");
+        assert_eq!(preview("1,2\r\n2,3\r\n3,2\r\n", 15), "no 36 5 2");
     }
 
     #[test]
@@ -251,11 +306,29 @@ mod tests {
         let (given, same) = (day("5;7:C:9"), day("5;7:C:9"));
         assert_eq!(say_studied(Err(refusal), &buffer(b""), &given, &same), "no 20 0 0");
         assert_eq!(say_studied(Err(refusal), &buffer(b"1"), &given, &same), "spoilt");
-        let mut cells = *given.cells();
-        *cells.last_mut().expect("a day has cells") = 1;
-        let changed = Day::from_cells(cells);
-        assert_eq!(changed, given);
+        let changed = with_a_cell_changed(&given);
         assert_eq!(say_studied(Err(refusal), &buffer(b""), &given, &changed), "spoilt");
         assert_eq!(say_refused(refusal, &given, &changed), "spoilt");
+    }
+
+    #[test]
+    fn a_preview_that_changed_the_day_is_spoilt() {
+        let refusal = Refusal { number: 31, file: 0, place: 0 };
+        let row = Row {
+            unit: 14,
+            supplier: 4,
+            verdict: Verdict::P,
+            left: 5_000_000,
+            schedule: 2,
+            kind: Kind::C,
+            cost: 220_000,
+        };
+        let (given, same) = (day("5;7:C:9"), day("5;7:C:9"));
+        assert_eq!(say_previewed(Ok(row), &given, &same), "ok 14,4,P,5000000,2,C,220000");
+        assert_eq!(say_previewed(Err(refusal), &given, &same), "no 31 0 0");
+        for changed in [day("6;7:C:9"), day("5;7:C:9,14:C:2"), with_a_cell_changed(&given)] {
+            assert_eq!(say_previewed(Ok(row), &given, &changed), "spoilt");
+            assert_eq!(say_previewed(Err(refusal), &given, &changed), "spoilt");
+        }
     }
 }

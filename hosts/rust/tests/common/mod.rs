@@ -1,6 +1,6 @@
-//! What the tests share: the headers, the files of a study as text, and the starred example of document 01 with its answers.
+//! What the tests share: the headers, the files of a study as text, the starred example of document 01 with its answers, and days.
 #![allow(dead_code)] // No test uses all of it.
-use capping::Refusal;
+use capping::{Day, Refusal};
 
 pub const CONSTRAINT: &str = "hour,relief,cutoff\r\n";
 pub const SUPPLY: &str = "unit,supplier,mw,cost,dfax\r\n";
@@ -14,6 +14,19 @@ pub const STARRED_ANSWER: &str = "unit,supplier,verdict,left,schedule,kind,cost\
 /// The same where any two of its suppliers are affiliated: unit 14's own group and two others are then all that supply.
 pub const AFFILIATED_ANSWER: &str = "unit,supplier,verdict,left,schedule,kind,cost\r\n\
     11,1,F,0,2,C,1030000\r\n12,2,F,0,1,M,330000\r\n13,3,F,0,1,C,890000\r\n14,4,F,0,1,M,500000\r\n";
+
+/// The day after a study of the starred files.
+pub const STARRED_DAY: &str = "5;11:C:2,12:M:1,13:C:1,14:M:1";
+
+// Where in a day's cells what stands.
+pub const HAS_HOUR: usize = 0;
+pub const HOUR: usize = 1;
+pub const COUNT: usize = 2;
+pub const PLACES: usize = 3;
+pub const PLACE_CELLS: usize = 3;
+
+/// Stands where a day has nothing of its own.
+pub const JUNK: u64 = 77_777;
 
 /// What a buffer is filled with before it is lent. No answer file has this byte.
 pub const PATTERN: u8 = 0xA5;
@@ -67,4 +80,29 @@ pub fn refused(number: u64, file: u64, place: u64) -> Refusal {
         file,
         place,
     }
+}
+
+pub fn day(words: &str) -> Day {
+    words.parse().expect("words of a day")
+}
+
+/// The same day in other cells: something stands behind its count and for the hour where it has none, and where it has one,
+/// another number than 1 says so.
+pub fn with_junk(day: &Day) -> Day {
+    let mut cells = *day.cells();
+    match cells[HAS_HOUR] {
+        0 => cells[HOUR] = JUNK,
+        _ => cells[HAS_HOUR] = JUNK,
+    }
+    let behind = PLACES + PLACE_CELLS * day.running().count();
+    cells[behind..].fill(JUNK);
+    Day::from_cells(cells)
+}
+
+/// Units one after the other, from 101 on, each on its market-based schedule 1.
+pub fn crowd(count: u64) -> String {
+    let units: Vec<String> = (101..101 + count)
+        .map(|unit| format!("{unit}:M:1"))
+        .collect();
+    units.join(",")
 }

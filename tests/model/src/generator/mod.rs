@@ -1,11 +1,12 @@
-//! Cases made up from a seed: studies and checks of every size and with every refusal, files to be handed
-//! back tidy, releases, lone tests, and lines that can't be read. The case of a seed and an index is always
-//! the same.
+//! Cases made up from a seed: studies, previews and checks of every size and with every refusal, files to
+//! be handed back tidy, releases, lone tests, and lines that can't be read. The case of a seed and an index
+//! is always the same.
 
 mod draft;
 mod faults;
 mod lines;
 mod parents;
+mod preview;
 pub mod random;
 pub mod sheet;
 mod supply;
@@ -42,7 +43,8 @@ impl Line {
 pub fn make(seed: u64, index: u64) -> Line {
     let random = &mut Random::of(seed, index);
     match random.between(0, 999) {
-        0..=619 => Line::of(make_study(random)),
+        0..=479 => Line::of(make_study(random)),
+        480..=619 => Line::of(preview::make_preview(random)),
         620..=779 => Line::of(tidy::make_tidy(random)),
         780..=839 => Line::of(make_check(random)),
         840..=909 => Line::of(lines::make_test(random)),
@@ -54,7 +56,7 @@ pub fn make(seed: u64, index: u64) -> Line {
 /// A study: most accepted, some with one fault, some with two.
 fn make_study(random: &mut Random) -> Case {
     let faults = make_faults(&NUMBERS, random);
-    let (day, files) = make_files(&faults, random);
+    let (Draft { day, .. }, files) = make_files(&faults, random);
     let (files, parents) = split(files);
     let buffer = make_buffer(faults.contains(&10), &day, &files.beside(&parents), random);
     Case::Study { day, files, parents, buffer }
@@ -79,8 +81,8 @@ fn split([constraint, supply, schedules, parents]: StudyFiles) -> (ThreeFiles, V
     (ThreeFiles([constraint, supply, schedules]), parents)
 }
 
-/// The files with the faults in them, and the day.
-fn make_files(faults: &[u64], random: &mut Random) -> (Day, StudyFiles) {
+/// The files with the faults in them, and the draft that they were written from.
+fn make_files(faults: &[u64], random: &mut Random) -> (Draft, StudyFiles) {
     if random.once_in(400) {
         return make_brimming(random);
     }
@@ -102,7 +104,7 @@ fn make_files(faults: &[u64], random: &mut Random) -> (Day, StudyFiles) {
         let file = random.index(files.len());
         disturb(&mut files[file], random);
     }
-    (draft.day, files)
+    (draft, files)
 }
 
 fn sheets(draft: &Draft) -> [Sheet; 4] {
@@ -126,7 +128,7 @@ fn write(sheets: [Sheet; 4], random: &mut Random) -> StudyFiles {
 
 /// Files of which one is as large as the program takes: schedules that are accepted, or a field that
 /// goes on and on.
-fn make_brimming(random: &mut Random) -> (Day, StudyFiles) {
+fn make_brimming(random: &mut Random) -> (Draft, StudyFiles) {
     let draft = Draft::make_brimming(random);
     let mut sheets = sheets(&draft);
     let full = if random.percent(50) { Some(sheets[SCHEDULES].write_brimming(random)) } else { None };
@@ -139,7 +141,7 @@ fn make_brimming(random: &mut Random) -> (Day, StudyFiles) {
             file.extend(std::iter::repeat_n(filler, LARGEST_FILE.saturating_sub(file.len())));
         }
     }
-    (draft.day, files)
+    (draft, files)
 }
 
 /// A buffer's length: ample, or right at the answer's own.

@@ -21,7 +21,7 @@ use native.Mathlib.Omega.{arith}
 use lib.ListN.{length, take}
 use Rattle.base.specs.Search.{any}
 use Rattle.base.specs.Text.{together}
-use Rattle.base.proofs.SearchLaws.{some-none, among-true}
+use Rattle.base.proofs.SearchLaws.{among-true}
 use Rattle.base.proofs.Together.{together-append}
 use Rattle.tables.specs.declared.answer.AnswerRow.{AnswerRow}
 use Rattle.tables.specs.declared.files.Refusal.{Refusal}
@@ -33,13 +33,13 @@ use Rattle.supply.proofs.UnitLaws.{among-units}
 use Rattle.outcome.specs.Answer.{answerHeader, line, answerText}
 use Rattle.outcome.specs.Day.{DayView}
 use Rattle.outcome.specs.Decision.{ofUnit}
-use Rattle.outcome.specs.Preview.{previewing, rowFor, notSupplied, previewRefusal, previewed}
+use Rattle.outcome.specs.Preview.{previewing, notSupplied, previewRefusal, previewed}
 use Rattle.outcome.specs.Right.{RightFor}
 use Rattle.outcome.specs.Study.{studyRows, answerFile, decisionRefusal, studyRefusal, studied}
 use Rattle.outcome.proofs.DayRelease.{unless-none}
-use Rattle.outcome.proofs.Numbered.{study-told, told-accepted, preview-told}
+use Rattle.outcome.proofs.Numbered.{study-told, told-accepted, preview-told, told-previewed}
 use Rattle.outcome.proofs.PreviewRows.{supplied-row}
-use Rattle.outcome.proofs.RefusalOrder.{enough-room, accepted-deciding, refused-both, not-supplied-last, accepted-both}
+use Rattle.outcome.proofs.RefusalOrder.{enough-room, refused-both, not-supplied-last, accepted-both}
 use Rattle.outcome.proofs.RowLaws.{row-right, row-decided}
 use Rattle.outcome.proofs.RowsToBytes.{studyRow, study-row-unit, study-rows}
 use Rattle.outcome.proofs.StudyBytes.{file-written}
@@ -51,17 +51,22 @@ pub record LineIn (text : List ℕ) (r : AnswerRow) : Type 0 where
   pub behind : List AnswerRow
   pub stands : text ≡ answerText before ++ (line r ++ together line behind)
 
+-- the row that is shown for a unit is one of the study's, and the unit's own; its line stands in the file that the study writes
+pub record ShownAsStudied (d : DayView) (f : Files) (u : ℕ) (buffer : List ℕ) : Type 0 where
+  pub row : AnswerRow
+  pub is-shown : previewed d f u .row ≡ some row
+  pub decided : Among row (studyRows d f)
+  pub its-unit : row .unit ≡ u
+  pub in-file : LineIn (take (studied d f buffer .count) (studied d f buffer .buffer)) row
+
 -- a preview beside a study of the same day and files
 pub record AsStudied (d : DayView) (f : Files) (u : ℕ) (buffer : List ℕ) : Type 0 where
   -- what the study refuses is refused alike
   pub refused-alike : 0 < studied d f buffer .told .number → previewed d f u .told ≡ studied d f buffer .told
   -- where it is accepted only 31 is left
   pub else-31 : studied d f buffer .told .number ≡ 0 → previewed d f u .told ≡ told (notSupplied f u)
-  -- a row that is previewed is the study's for the unit, and its line stands in the answer file
-  pub same-row : (r : AnswerRow) → previewed d f u .row ≡ some r → Among r (studyRows d f) × (r .unit ≡ u)
-  pub in-file :
-      (r : AnswerRow) → previewed d f u .row ≡ some r →
-      LineIn (take (studied d f buffer .count) (studied d f buffer .buffer)) r
+  -- where neither is refused, the row is the study's
+  pub same-row : previewed d f u .told .number ≡ 0 → ShownAsStudied d f u buffer
 
 line-between :
     (before behind : List AnswerRow) (r : AnswerRow) →
@@ -80,11 +85,6 @@ line-in {r} m =
     parts (later {x = x} m) =
         let (before, behind, parted) = parts m in
         (x ∷ before, behind, ap (λ (l : List AnswerRow). x ∷ l) parted)
-
-previewing-accepts : (row : Option AnswerRow) {r : AnswerRow} (o : Option Refusal) → previewing row o .row ≡ some r → o ≡ none
-unfolding previewing
-previewing-accepts row none e = refl
-previewing-accepts row (some x) e = some-none (sym e)
 
 some-same : {A : Type 0} {x y : A} → some x ≡ some y → x ≡ y
 some-same e = cc
@@ -125,32 +125,17 @@ module _ (d : DayView) (f : Files) (u : ℕ) where
             let its : r .unit ≡ u = omega (arith, t .its-unit) in
             shown ∙ ap some (sym (row-decided d f decides r (rw its listed) (t .right) ∙ ap (studyRow d f) its))
 
-  -- a row is shown only where nothing is refused
-  shown-accepted : (r : AnswerRow) → previewed d f u .row ≡ some r → previewRefusal d f u ≡ none
-  unfolding previewed
-  shown-accepted r e = previewing-accepts _ (previewRefusal d f u) e
-
-  its-own : (r : AnswerRow) → previewed d f u .row ≡ some r → studyRow d f u ≡ r
-  its-own r e = some-same (sym (shown (shown-accepted r e)) ∙ e)
-
   pub as-studied : (buffer : List ℕ) → length (answerFile d f) ≤ length buffer → AsStudied d f u buffer
   unfolding answerFile
   as-studied buffer holds =
       record {
-        refused-alike = λ some-number. alike (decisionRefusal d f) refl some-number;
-        else-31 = λ zero. preview-told d f u ∙ ap told (not-supplied-last d f u (decided zero));
-        same-row = among;
-        in-file = λ r e. rw (file-written d f buffer (accepted r e)) (line-in (among r e .0));
+        refused-alike = alike (decisionRefusal d f) refl;
+        else-31 = λ zero. preview-told d f u ∙ ap told (not-supplied-last d f u (sym same ∙ told-accepted d f buffer zero));
+        same-row = λ zero. written (told-previewed d f u zero);
       }
     where
       same : studyRefusal d f (length buffer) ≡ decisionRefusal d f
       same = enough-room d f (length buffer) (λ _. holds)
-
-      decided : studied d f buffer .told .number ≡ 0 → decisionRefusal d f ≡ none
-      decided zero = sym same ∙ told-accepted d f buffer zero
-
-      accepted : (r : AnswerRow) → previewed d f u .row ≡ some r → studyRefusal d f (length buffer) ≡ none
-      accepted r e = same ∙ decides (shown-accepted r e)
 
       alike :
           (o : Option Refusal) → decisionRefusal d f ≡ o → 0 < studied d f buffer .told .number →
@@ -159,10 +144,16 @@ module _ (d : DayView) (f : Files) (u : ℕ) where
       alike (some r) e h =
           preview-told d f u ∙ ap told (refused-both d f u r e) ∙ sym (study-told d f buffer ∙ ap told (same ∙ e))
 
-      among : (r : AnswerRow) → previewed d f u .row ≡ some r → Among r (studyRows d f) × (r .unit ≡ u)
-      among r e =
-          let m : Among (studyRow d f u) (studyRows d f) = rw (study-rows d f) (among-map (studyRow d f) (listed (shown-accepted r e))) in
-          rw (← its-own r e) (m, study-row-unit d f u)
+      written : previewRefusal d f u ≡ none → ShownAsStudied d f u buffer
+      written ok =
+          let m : Among (studyRow d f u) (studyRows d f) = rw (study-rows d f) (among-map (studyRow d f) (listed ok)) in
+          record {
+            row = studyRow d f u;
+            is-shown = shown ok;
+            decided = m;
+            its-unit = study-row-unit d f u;
+            in-file = rw (file-written d f buffer (same ∙ decides ok)) (line-in m);
+          }
 
 -- each row of an accepted study's answer is previewed for its unit
 pub every-row-previewed :

@@ -6,13 +6,11 @@ use mathlib.Core.Logic.{⊎-elim}
 use mathlib.Core.Bool.{true, false, cond}
 use mathlib.Core.List.{List, [], _∷_, map}
 use mathlib.Core.Option.{none, some}
-use lib.Dec.{eqb}
 use borrow.Author.Tests.{eq-eqb, ne-eqb}
 use Rattle.base.specs.Rising.{among}
 use Rattle.base.specs.Search.{any}
 use Rattle.base.proofs.Finds.{find-none, find-here, find-later}
 use Rattle.base.proofs.Tests.{eq-or-ne}
-use Rattle.tables.specs.declared.answer.AnswerRow.{AnswerRow}
 use Rattle.checking.specs.Files.{Files, supplyOf}
 use Rattle.supply.specs.Supply.{units}
 use Rattle.supply.proofs.UnitLaws.{among-units}

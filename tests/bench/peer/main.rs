@@ -6,8 +6,9 @@ use std::process::ExitCode;
 use capping_bench::engine::{Engine, Files};
 use peer::{Day, Outcome, Rules, TidyFile, WholeDay};
 
-/// The requests of document 02 that bring tidy files and parents.
+/// The requests of document 02 that bring tidy files, previews and parents.
 const TIDY_FILES: u8 = 1;
+const PREVIEWS: u8 = 2;
 const AFFILIATED_OWNERS: u8 = 6;
 
 const PEER: Engine = Engine {
@@ -15,6 +16,11 @@ const PEER: Engine = Engine {
     study: |files, buffer| match files.parents {
         [] => study_alone(files, buffer),
         _ => study_affiliated(files, buffer),
+    },
+    preview: |files, unit| {
+        let (engine, files) = (peer::Engine::new(Rules::landed(&[PREVIEWS, AFFILIATED_OWNERS])), with_parents(files));
+        let unit = u16::try_from(unit).expect("a unit has four digits at most");
+        engine.preview(&WholeDay::fresh(), &files, unit).map_or(0, |line| line.cost)
     },
     check: |[constraint, supply, schedules]| u64::from(peer::check(constraint, supply, schedules)),
     tidy: Some(|schedules, buffer| {
@@ -34,10 +40,14 @@ fn study_alone(files: &Files, buffer: &mut [u8]) -> usize {
 
 /// With parents: its study by any set of requests, here that one.
 fn study_affiliated(files: &Files, buffer: &mut [u8]) -> usize {
-    let three = peer::Files::three(files.constraint, files.supply, files.schedules);
-    let files = peer::Files { parents: files.parents, ..three };
     let engine = peer::Engine::new(Rules::landed(&[AFFILIATED_OWNERS]));
-    engine.study(&WholeDay::fresh(), &files, buffer).map_or(0, |studied| studied.written)
+    engine.study(&WholeDay::fresh(), &with_parents(files), buffer).map_or(0, |studied| studied.written)
+}
+
+/// All files that there are by then.
+fn with_parents<'a>(files: &Files<'a>) -> peer::Files<'a> {
+    let three = peer::Files::three(files.constraint, files.supply, files.schedules);
+    peer::Files { parents: files.parents, ..three }
 }
 
 fn main() -> ExitCode {

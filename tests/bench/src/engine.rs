@@ -1,4 +1,4 @@
-//! What is timed: an implementation's study and check, and its tidying of a schedules file.
+//! What is timed: an implementation's study and check, its preview of a unit, and its tidying of a schedules file.
 
 use capping::File;
 use capping_model::answer::LONGEST;
@@ -16,6 +16,8 @@ pub struct Engine {
     pub name: &'static str,
     /// Studies the files on a fresh day: the answer's length in the buffer, or 0 where it refuses them.
     pub study: fn(&Files, &mut [u8]) -> usize,
+    /// Previews a unit on a fresh day: the cost that its row shows, or 0 where it is refused.
+    pub preview: fn(&Files, u64) -> u64,
     /// 0, or the number of the first refusal.
     pub check: fn([&[u8]; 3]) -> u64,
     /// Hands a schedules file back tidy: the tidy file's length in the buffer, or 0 where it refuses the file.
@@ -28,22 +30,23 @@ pub struct Engine {
 #[derive(Clone, Copy)]
 pub enum Call {
     Study,
+    Preview,
     Check,
     Tidy,
 }
 
 impl Call {
-    pub const ALL: [Call; 3] = [Call::Study, Call::Check, Call::Tidy];
+    pub const ALL: [Call; 4] = [Call::Study, Call::Preview, Call::Check, Call::Tidy];
 
     /// Whether the call is timed on a study: one that takes no parents isn't where there are some.
     pub fn takes(self, study: &Study) -> bool {
-        matches!(self, Call::Study) || study.parents.is_empty()
+        matches!(self, Call::Study | Call::Preview) || study.parents.is_empty()
     }
 
     /// How many bytes of a study the call reads.
     pub fn bytes(self, study: &Study) -> usize {
         match self {
-            Call::Study | Call::Check => study.bytes(),
+            Call::Study | Call::Preview | Call::Check => study.bytes(),
             Call::Tidy => study.lend().schedules.len(),
         }
     }
@@ -51,6 +54,7 @@ impl Call {
     pub fn name(self) -> &'static str {
         match self {
             Call::Study => "study",
+            Call::Preview => "preview",
             Call::Check => "check",
             Call::Tidy => "tidy",
         }
@@ -61,10 +65,8 @@ impl Engine {
     /// The engine that is proved.
     pub const OURS: Engine = Engine {
         name: "ours",
-        study: |files, buffer| {
-            let three = capping::Files::new(files.constraint, files.supply, files.schedules);
-            capping::study_into(three.with_parents(files.parents), buffer).unwrap_or(0)
-        },
+        study: |files, buffer| capping::study_into(lent(files), buffer).unwrap_or(0),
+        preview: |files, unit| capping::Day::fresh().preview(lent(files), unit).map_or(0, |row| row.cost),
         check: |[constraint, supply, schedules]| match capping::check(constraint, supply, schedules) {
             Ok(()) => 0,
             Err(number) => number,
@@ -77,6 +79,7 @@ impl Engine {
     pub const MODEL: Engine = Engine {
         name: "model",
         study: |files, buffer| Day::fresh().study(files, buffer).1.unwrap_or(0),
+        preview: |files, unit| Day::fresh().preview(files, unit).map_or(0, |row| row.chosen.cost),
         check,
         tidy: None,
         rounds_a_call: 10,
@@ -87,8 +90,8 @@ impl Engine {
         !matches!(call, Call::Tidy) || self.tidy.is_some()
     }
 
-    /// That the engine accepts a study and answers it byte for byte as the model does, and that the tidy schedules are the
-    /// rows they were made of.
+    /// That the engine accepts a study and answers it byte for byte as the model does, that it previews the cost which stands
+    /// there, and that the tidy schedules are the rows they were made of.
     pub fn compare(&self, study: &Study) -> Result<(), String> {
         let files = study.lend();
         let differs = |what: &str| Err(format!("{} {what} the study {study}", self.name));
@@ -96,6 +99,9 @@ impl Engine {
         match (self.check)(study.files.lend()) {
             0 if answer.is_empty() => differs("refuses"),
             0 if answer != Engine::MODEL.answer(&files) => differs("has another answer than the model to"),
+            0 if (self.preview)(&files, study.last_unit) != last_cost(&answer) => {
+                differs("previews another cost in")
+            }
             0 if !self.tidies(study) => differs("doesn't tidy the schedules of"),
             0 => Ok(()),
             number => differs(&format!("checks with {number}")),
@@ -118,6 +124,17 @@ impl Engine {
             buffer[..length] == study.tidy_schedules
         })
     }
+}
+
+/// The files as the engine that is proved takes them.
+fn lent<'a>(files: &Files<'a>) -> capping::Files<'a> {
+    capping::Files::new(files.constraint, files.supply, files.schedules).with_parents(files.parents)
+}
+
+/// The last field of an answer file.
+fn last_cost(answer: &[u8]) -> u64 {
+    let text = String::from_utf8_lossy(answer);
+    text.trim_end().rsplit(',').next().and_then(|cost| cost.parse().ok()).unwrap_or_default()
 }
 
 #[cfg(test)]
@@ -159,6 +176,14 @@ mod tests {
             length
         };
         assert!(Engine { study: one_byte_off, ..Engine::MODEL }.compare(&study()).is_err());
+    }
+
+    #[test]
+    fn an_engine_that_previews_another_cost_is_not_timed() {
+        let one_on = |files: &Files, unit: u64| (Engine::MODEL.preview)(files, unit + 1);
+        assert!(Engine { preview: one_on, ..Engine::MODEL }.compare(&study()).is_err());
+        let dearer = |files: &Files, unit: u64| (Engine::MODEL.preview)(files, unit) + 1;
+        assert!(Engine { preview: dearer, ..Engine::MODEL }.compare(&study()).is_err());
     }
 
     #[test]

@@ -1,5 +1,5 @@
-//! How long a study and a check take, and how long it takes to tidy a schedules file: the engine's own, the model's (which
-//! isn't asked to tidy) and, where there is one, a peer's, which is another implementation of document 01. All are called
+//! How long a study, a preview and a check take, and how long it takes to tidy a schedules file: the engine's own, the model's
+//! (which isn't asked to tidy) and, where there is one, a peer's, which is another implementation of document 01. All are called
 //! in this process, on the same bytes, in the same rounds.
 //! Nothing here says how long a call may take.
 //!

@@ -153,6 +153,7 @@ impl Plot {
         let colour = line.colour;
         let (dashes, fill) = match line.call {
             Call::Study => ("none", colour),
+            Call::Preview => ("10 3", "white"),
             Call::Check => ("6 4", "white"),
             Call::Tidy => ("2 3", "white"),
         };

@@ -79,6 +79,8 @@ pub struct Study {
     pub layout: Layout,
     pub supply_rows: usize,
     pub schedule_rows: usize,
+    /// The largest number of a unit, which has the last row of the answer.
+    pub last_unit: u64,
     pub files: ThreeFiles,
     pub parents: Vec<u8>,
     /// The schedules unquoted, which is what they are tidied to.
@@ -122,9 +124,10 @@ impl Study {
             _ => Vec::new(),
         };
         let (supply_rows, schedule_rows) = (filing.supply.len(), filing.schedules.len());
+        let last_unit = filing.units().into_iter().max().unwrap_or_default();
         let tidy_schedules = Sheet::schedules(&filing.schedules).join(|_| false);
         let files = ThreeFiles(sheets.map(written));
-        Study { layout, supply_rows, schedule_rows, files, parents, tidy_schedules }
+        Study { layout, supply_rows, schedule_rows, last_unit, files, parents, tidy_schedules }
     }
 
     /// The files as a study takes them.

@@ -1,5 +1,5 @@
-//! The rounds: in each, every engine studies every study once, and checks it and tidies its schedules where it has no
-//! parents, so that a load of the machine hits all alike.
+//! The rounds: in each, every engine studies every study once and previews its last unit, and checks it and tidies its
+//! schedules where it has no parents, so that a load of the machine hits all alike.
 
 use std::hint::black_box;
 use std::time::{Duration, Instant};
@@ -70,6 +70,8 @@ fn measure_round(round: usize, engines: &[Engine], measured: &mut Measured) {
             continue;
         }
         times[Call::Study as usize].add(time(|| (engine.study)(black_box(&files), black_box(&mut buffer))));
+        let preview = || (engine.preview)(black_box(&files), black_box(measured.study.last_unit));
+        times[Call::Preview as usize].add(time(preview));
         if Call::Check.takes(measured.study) {
             times[Call::Check as usize].add(time(|| (engine.check)(black_box(three))));
         }

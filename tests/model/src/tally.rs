@@ -111,25 +111,8 @@ const TIDIED: [(&str, ByFile); 4] = [
     ("of all rows", Reached::TidyFull),
 ];
 
-/// The refusals of a preview.
-const PREVIEW_REFUSALS: [Named; 16] = [
-    (1, &[1, 2, 3, 5]),
-    (2, &[1, 2, 3, 5]),
-    (3, &[1, 2, 3, 5]),
-    (4, &[1, 2, 3, 5]),
-    (5, &[2]),
-    (6, &[2, 3]),
-    (7, &[3]),
-    (8, &[3]),
-    (9, &[3]),
-    (20, &[0]),
-    (21, &[3]),
-    (22, &[0]),
-    (24, &[0]),
-    (31, &[0]),
-    (35, &[5]),
-    (36, &[5]),
-];
+/// The refusals that a preview hasn't: that of a short buffer, of a lone test and of a release.
+const NOT_OF_A_PREVIEW: [u64; 3] = [10, 11, 23];
 
 /// The refusal of a preview that comes after all others.
 const ABSENT: u64 = 31;
@@ -219,9 +202,9 @@ impl Tally {
     /// What was previewed.
     fn show_previews(&self, out: &mut Formatter) -> fmt::Result {
         writeln!(out, "preview    file 0    file 1    file 2    file 3    file 5")?;
-        self.show_refusals(&PREVIEW_REFUSALS, &FILES, Reached::NotPreviewed, out)?;
+        self.show_refusals(&preview_refusals(), &FILES, Reached::NotPreviewed, out)?;
         write!(out, "of a unit not in supply, before 31")?;
-        for number in before_thirty_one() {
+        for (number, _) in refused_before() {
             write!(out, "  {number}: {}", self.of(Reached::BeforeThirtyOne(number)))?;
         }
         let [untested, passed, failed] = VERDICTS.map(|verdict| self.of(Reached::Previewed(verdict)));
@@ -262,8 +245,13 @@ fn each(refusals: &[Named], reached: fn(u64, u64) -> Reached) -> Vec<Reached> {
 }
 
 /// The refusals of a preview that come before 31.
-fn before_thirty_one() -> impl Iterator<Item = u64> {
-    PREVIEW_REFUSALS.into_iter().map(|(number, _)| number).filter(|&number| number != ABSENT)
+fn refused_before() -> impl Iterator<Item = Named> {
+    REFUSALS.into_iter().filter(|(number, _)| !NOT_OF_A_PREVIEW.contains(number))
+}
+
+/// The refusals of a preview.
+fn preview_refusals() -> Vec<Named> {
+    refused_before().chain([(ABSENT, &[0][..])]).collect()
 }
 
 /// Everything that a right engine can be brought to.
@@ -273,8 +261,8 @@ fn can_occur() -> Vec<Reached> {
     for (_, reached) in TIDIED {
         all.extend([1, 2, 3].map(reached));
     }
-    all.extend(each(&PREVIEW_REFUSALS, Reached::NotPreviewed));
-    all.extend(before_thirty_one().map(Reached::BeforeThirtyOne));
+    all.extend(each(&preview_refusals(), Reached::NotPreviewed));
+    all.extend(refused_before().map(|(number, _)| Reached::BeforeThirtyOne(number)));
     all.extend(VERDICTS.map(Reached::Previewed));
     all.extend(LOOKED_AT.map(|(_, reached)| reached));
     all.extend((0..=9).map(Reached::Check));

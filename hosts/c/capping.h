@@ -4,7 +4,7 @@
  * Holds for each call: a run of bytes or amounts is a pointer, then how many there are, and no pointer may be NULL, not even
  * with length 0. Everything belongs to the caller: what is const is only read, what isn't is written during the call, and
  * nothing is kept or freed. What is written may overlap nothing else that is lent to the same call. There is no state but the
- * days that callers keep, so threads may call at the same time, on a day each. A call takes up to 128 KiB of stack.
+ * days that callers keep, so threads may call at the same time, on a day each. A call takes up to 136 KiB of stack.
  *
  * A parents file of length 0 is none; each other file of length 0 is one record with one blank field. docs/REFUSALS.md says
  * what each number means and how to mend it. */

@@ -44,6 +44,10 @@ supplyOf s = map supplyRow (rowsAsCells Supply s)
 unfoldable pub schedulesOf : List ℕ → List ScheduleRow
 schedulesOf s = map scheduleRow (rowsAsCells Schedules s)
 
+-- schedule rows as a study goes by them
+unfoldable pub scheduledOf : Files → List ScheduleRow
+scheduledOf f = schedulesOf (f .schedules)
+
 -- parents: of no bytes, the file counts as its header alone
 unfoldable pub orHeader : File → List ℕ → List ℕ
 orHeader f [] = headerText f

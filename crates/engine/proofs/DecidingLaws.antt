@@ -17,7 +17,7 @@ use Rattle.tables.specs.declared.files.Refusal.{Refusal}
 use Rattle.tables.specs.Refusals.{refused, bareRefusal, unless}
 use Rattle.cells.specs.promises.Views.{answerRows, answerWidth}
 use Rattle.supply.specs.Supply.{units}
-use Rattle.checking.specs.Files.{Files, constraintOf, supplyOf, schedulesOf, groupsOf, marketRefusals, besideRefusals, checkRefusals, checkRefusal}
+use Rattle.checking.specs.Files.{Files, constraintOf, supplyOf, schedulesOf, scheduledOf, groupsOf, marketRefusals, besideRefusals, checkRefusals, checkRefusal}
 use Rattle.base.proofs.FirstLaws.{first-of-one, first-of-here, first-of-later, first-of-part, first-of-rest}
 use Rattle.decision.specs.promises.Deciding.{DecidesRows}
 use Rattle.decision.specs.promises.Units.{UnitsOf}
@@ -175,7 +175,7 @@ module _ (day : Day) (f : Files) (new : List ℕ) (r : Deciding) where
         firstOf (marketRefusals (f .constraint) (f .supply)) ≡ none → (c : ConstraintRow) → c ≡ constraintOf (f .constraint) →
         (supply : List SupplyRow) → supply ≡ supplyOf (f .supply) → DecidesGroups day c supply (f .schedules) (f .parents) new r →
         DecidesStudy day f new r
-    unfolding decisionRefusal decisionRefusals checkRefusals studyRows groupsOf
+    unfolding decisionRefusal decisionRefusals checkRefusals studyRows scheduledOf groupsOf
     market-decided ok c constraint supply is decides =
         rw (
           first-of-later _ _ (unless-kept (dayFormed (viewOf day)) 24 formed),

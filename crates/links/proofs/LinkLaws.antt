@@ -2,7 +2,7 @@
 use Prim.Native.Nat.{ℕ, zero, suc, _+_, _-_, _*_, _≤_, _<_, min}
 use mathlib.Core.Path.{_≡_, refl, sym, _∙_, ap}
 use mathlib.Core.Logic.{⊎-elim}
-use mathlib.Core.Bool.{Bool, true, false, cond, _||_}
+use mathlib.Core.Bool.{Bool, true, false, cond, _||_, or-true}
 use mathlib.Core.List.{List, _++_, append-nil}
 use native.Mathlib.Omega.{arith}
 use native.Mathlib.Numerals.{add-one}
@@ -11,7 +11,7 @@ use lib.ListN.{length, getD, set, replicate, take, drop, length-set, length-appe
 use lib.Seq.{getD-set-same, getD-set-other, lt-length-set, take-at, drop-at, length-take-le, getD-take, getD-drop}
 use borrow.Author.Tests.{eq-eqb, ne-eqb, eqb-true}
 use Rattle.base.proofs.Lists.{rest-lent, rest-back}
-use Rattle.base.proofs.Tests.{either, eq-or-ne}
+use Rattle.base.proofs.Tests.{either, eq-or-ne, false-true}
 use Rattle.links.specs.promises.Links.{lastSame, mostLinked, Unlinked, rowLinked, Linked, LinkedTo, anyBefore, LinksLead, Along, unitKeys, scheduleKeys, byUnit, bySchedule, unitKey, scheduleKey, unitLinks, linksLength, RowsLinked}
 
 -- a run of zeros has no row
@@ -137,7 +137,7 @@ module _ (key : ℕ → ℕ) where
       go true h = omega arith
       go false h = omega arith
 
-  last-has : (x k j : ℕ) → lastSame key x k ≡ suc j → key j ≡ x
+  pub last-has : (x k j : ℕ) → lastSame key x k ≡ suc j → key j ≡ x
   unfolding lastSame
   last-has x zero j e = absurd (omega arith)
   last-has x (suc k) j e = go (eqb (key k) x) refl (last-has x k j) e
@@ -149,6 +149,18 @@ module _ (key : ℕ → ℕ) where
           let same : j ≡ k = omega arith in
           rw same (eqb-true (key k) x q)
       go false q below e = below e
+
+  -- and no row with the key is behind it
+  pub last-reaches : (x k j : ℕ) → j < k → key j ≡ x → j < lastSame key x k
+  last-reaches x zero j h e = absurd (omega arith)
+  last-reaches x (suc k) j h e =
+      ⊎-elim
+      (λ (f : key k ≡ x). rw (last-here x k f) h)
+      (λ (f : key k ≡ x → ⊥). rw (last-later x k f) (last-reaches x k j (earlier f) e))
+      (eq-or-ne (key k) x)
+    where
+      earlier : (key k ≡ x → ⊥) → j < k
+      earlier f = ⊎-elim (λ (i : j ≡ k). absurd (f (rw (← i) e))) (λ (i : j ≡ k → ⊥). omega arith) (eq-or-ne j k)
 
   leads-from :
       (x k : ℕ) (links : List ℕ) (left : ℕ) → ((j : ℕ) → j < k → getD links j 0 ≡ lastSame key (key j) j) → k ≤ length links →
@@ -289,6 +301,31 @@ part-linked {key} {keys} {n} m links l =
       by-key = λ (x : ℕ) (h : x < keys). sym (getD-take m links (mostLinked + x) 0 (omega (arith, l .room))) ∙ l .by-key x h;
     }
 
+-- rows whose keys stay are linked as they were
+module _ (key now : ℕ → ℕ) (n : ℕ) (same : (j : ℕ) → j < n → now j ≡ key j) where
+  last-same : (x k : ℕ) → k ≤ n → lastSame now x k ≡ lastSame key x k
+  unfolding lastSame
+  last-same x zero h = refl
+  last-same x (suc k) h = rw (same k (omega arith), last-same x k (omega arith))
+
+  linked-same : {keys : ℕ} {links : List ℕ} → Linked key keys n links → Linked now keys n links
+  linked-same l =
+      record {
+        few = l .few;
+        room = l .room;
+        by-row = λ k h. l .by-row k h ∙ rw (same k h) (sym (last-same (key k) k (omega arith)));
+        by-key = λ x h. l .by-key x h ∙ sym (last-same x n (omega arith));
+      }
+
+pub rows-same :
+    (cells now : List ℕ) (n : ℕ) {links : List ℕ} → ((j : ℕ) → j < n → getD now (j * 9 + 0) 0 ≡ getD cells (j * 9 + 0) 0) →
+    ((j : ℕ) → j < n → getD now (j * 9 + 1) 0 ≡ getD cells (j * 9 + 1) 0) → RowsLinked cells n links → RowsLinked now n links
+rows-same cells now n units schedules l =
+    record {
+      by-unit = linked-same (unitKey cells) (unitKey now) n (λ j h. rw (units j h)) (l .by-unit);
+      by-schedule = linked-same (scheduleKey cells) (scheduleKey now) n (λ j h. rw (units j h, schedules j h)) (l .by-schedule);
+    }
+
 -- the parts of a run of links, and the second as it is lent
 pub rows-length : {cells : List ℕ} {n : ℕ} {links : List ℕ} → RowsLinked cells n links → linksLength ≤ length links
 rows-length {links = links} l = omega (arith, l .by-schedule .room, length-drop unitLinks links)
@@ -343,6 +380,29 @@ unfolding anyBefore
 any-last p left h =
     let one-less : left ≡ suc (left - 1) = omega arith in
     ap (anyBefore p) one-less
+
+-- places of which one passes a test
+pub any-place : (p : ℕ → Bool) (n k : ℕ) → k < n → p k ≡ true → anyBefore p n ≡ true
+unfolding anyBefore
+any-place p zero k h e = absurd (omega arith)
+any-place p (suc n) k h e =
+    ⊎-elim
+    (λ (f : k ≡ n). rw (← f, e))
+    (λ (f : k ≡ n → ⊥). rw (any-place p n k (omega arith) e) (or-true (p n)))
+    (eq-or-ne k n)
+
+pub some-place : (p : ℕ → Bool) (n : ℕ) → anyBefore p n ≡ true → (k : ℕ) × (k < n) × (p k ≡ true)
+unfolding anyBefore
+some-place p zero e = false-true e
+some-place p (suc n) e = go (p n) refl e (some-place p n)
+  where
+    go :
+        (t : Bool) → p n ≡ t → (t || anyBefore p n) ≡ true → (anyBefore p n ≡ true → (k : ℕ) × (k < n) × (p k ≡ true)) →
+        (k : ℕ) × (k < suc n) × (p k ≡ true)
+    go true f e more = (n, omega arith, f)
+    go false f e more =
+        let (k, h, g) = more e in
+        (k, omega arith, g)
 
 -- one row of a search along links
 module _ (p : ℕ → Bool) (k : ℕ) (links : List ℕ) (left : ℕ) (l : Along p k links left) where

@@ -104,8 +104,8 @@ module _ (d : DayView) (f : Files) (e : decisionRefusal d f ≡ none) where
         left =
             left-small (constraintOf (f .constraint)) (groupsOf f) positive (some-need (sound d f e)) groups-most (groups-permitted d f e)
             (t .tested (unitRow (groupsOf f) (r .unit)) (unit-row (groupsOf f) (r .unit) g));
-        schedule = schedule-small (k .schedules-permitted) (k .schedules-agree) (t .schedule);
-        cost = shown-cost-small (k .schedules-permitted) (k .schedules-agree) (t .schedule);
+        schedule = schedule-small (sound d f e .schedules) (sound d f e .schedules-agree) (t .schedule);
+        cost = shown-cost-small (sound d f e .schedules) (sound d f e .schedules-agree) (t .schedule);
       }
 
   study-ranged : All Ranged (studyRows d f)

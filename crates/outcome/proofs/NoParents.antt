@@ -14,6 +14,7 @@ use Rattle.checking.specs.Files.{
   constraintOf,
   supplyOf,
   schedulesOf,
+  scheduledOf,
   orHeader,
   parentsOf,
   groupsOf,
@@ -36,7 +37,7 @@ module _ (c s h : List ℕ) where
   own-suppliers = rw no-rows (no-parents (supplyOf s))
 
   pub rows-without : (d : DayView) → studyRows d (files c s h []) ≡ decided (constraintOf c) (supplyOf s) (schedulesOf h) (d .running) (supplyOf s)
-  unfolding studyRows
+  unfolding studyRows scheduledOf
   rows-without d = rw own-suppliers
 
   abbrev us : List ℕ
@@ -58,5 +59,5 @@ module _ (c s h : List ℕ) where
   same-header = refl
 
   pub header-alone : (d : DayView) (old : List ℕ) → studied d (files c s h (headerText Parents)) old ≡ studied d (files c s h []) old
-  unfolding studied studyRefusal studyRefusals decisionRefusals checkRefusals besideRefusals studyRows groupsOf parentsOf aloneRefusals
+  unfolding studied studyRefusal studyRefusals decisionRefusals checkRefusals besideRefusals studyRows scheduledOf groupsOf parentsOf aloneRefusals
   header-alone d old = rw same-header

@@ -18,7 +18,7 @@ use Rattle.tables.specs.declared.files.File.{File}
 use Rattle.tables.specs.declared.files.File.the-variants.{Constraint, Supply, Schedules, Parents}
 use Rattle.tables.specs.declared.files.Refusal.{Refusal}
 use Rattle.tables.specs.declared.answer.AnswerRow.{AnswerRow}
-use Rattle.checking.specs.Files.{Files, affiliateRefusals, aloneRefusals, marketRefusals, schedulesRefusals, unitsRefusals, besideRefusals, checkRefusals, constraintOf, supplyOf, schedulesOf, parentsOf, orHeader}
+use Rattle.checking.specs.Files.{Files, affiliateRefusals, aloneRefusals, marketRefusals, schedulesRefusals, unitsRefusals, besideRefusals, checkRefusals, constraintOf, supplyOf, schedulesOf, scheduledOf, parentsOf, orHeader}
 use Rattle.outcome.specs.Day.{DayView, dayFormed, runs, releaseRefusal, earlier, wouldRun, mostRunning}
 use Rattle.outcome.specs.Study.{outcome, tooManyRunning, shortBuffer, rowsRefusals, decisionRefusals, decisionRefusal, studyRefusals, studyRefusal, studied, studyRows}
 use Rattle.outcome.specs.Decision.{ofUnit, noCostSchedule}
@@ -126,7 +126,7 @@ decision-numbered d f =
     all-more (bare (dayFormed d) 24 refl)
     (both (check-numbered f)
     (all-more (bare (not (earlier hour (d .hour))) 20 refl)
-    (all-more (at-place 21 Schedules (noCostSchedule hour supply (schedulesOf (f .schedules)) (d .running)) refl)
+    (all-more (at-place 21 Schedules (noCostSchedule hour supply (scheduledOf f) (d .running)) refl)
     (all-more (bare (leb (wouldRun (units supply) (d .running)) mostRunning) 22 refl) all-none))))
 
 study-numbered : (d : DayView) (f : Files) (room : ℕ) → All (Numbered (10 ∷ decisionNumbers)) (studyRefusals d f room)

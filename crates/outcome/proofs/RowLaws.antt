@@ -7,7 +7,7 @@ use native.Mathlib.Omega.{arith}
 use Rattle.tables.specs.Rows.{SupplyRow, ScheduleRow}
 use Rattle.tables.specs.declared.answer.AnswerRow.{AnswerRow}
 use Rattle.tables.specs.declared.constraint.ConstraintRow.{ConstraintRow}
-use Rattle.checking.specs.Files.{Files, constraintOf, supplyOf, schedulesOf, groupsOf}
+use Rattle.checking.specs.Files.{Files, constraintOf, supplyOf, scheduledOf, groupsOf}
 use Rattle.supply.specs.Supply.{units, supplyAtOdds}
 use Rattle.market.specs.Parties.{party}
 use Rattle.market.specs.Removals.{PartyOf}
@@ -60,11 +60,11 @@ module _
 module _ (d : DayView) (f : Files) (e : decisionRefusal d f ≡ none) where
   pub row-right : (u : ℕ) → Among u (units (supplyOf (f .supply))) → RightOf d f (studyRow d f u)
   row-right =
-      right (constraintOf (f .constraint)) (groupsOf f) (schedulesOf (f .schedules)) (d .running) (sound d f e)
+      right (constraintOf (f .constraint)) (groupsOf f) (scheduledOf f) (d .running) (sound d f e)
       (supplyOf (f .supply)) (files-kept d f e .supply-agrees) (groups-units d f e)
 
   pub row-decided :
       (r : AnswerRow) → Among (r .unit) (units (supplyOf (f .supply))) → RightOf d f r → r ≡ studyRow d f (r .unit)
   row-decided =
-      only (constraintOf (f .constraint)) (groupsOf f) (schedulesOf (f .schedules)) (d .running) (sound d f e)
+      only (constraintOf (f .constraint)) (groupsOf f) (scheduledOf f) (d .running) (sound d f e)
       (supplyOf (f .supply)) (files-kept d f e .supply-agrees) (groups-units d f e)

@@ -21,7 +21,7 @@ use Rattle.outcome.specs.Right.{RightSchedule}
 use Rattle.outcome.specs.Study.{chosen, studyRows, decisionRefusal}
 use Rattle.outcome.proofs.DayRanges.{unit-in-range}
 use Rattle.outcome.proofs.Demand3.{study-right}
-use Rattle.outcome.proofs.Sound.{files-kept}
+use Rattle.outcome.proofs.Sound.{files-kept, sound}
 
 -- the schedule that a right row shows is one of the schedules file
 pub row-permitted :
@@ -40,7 +40,7 @@ row-in-range d f ok r m =
     let (w, of-the-unit) = per-unit .a-unit r m in
     let unit = all-mem (files-kept d f ok .supply-permitted) (of-the-unit .a-row) in
     let right = all-mem every-row m .schedule in
-    let schedule = row-permitted (files-kept d f ok .schedules-permitted) right in
+    let schedule = row-permitted (sound d f ok .schedules) right in
     let number = ap (λ (x : Choice). x .schedule) (right .right .shows) in
     unit-in-range (chosen r)
     (omega (arith, of-the-unit .its-unit, unit .some-unit))

@@ -11,7 +11,7 @@ use Rattle.tables.specs.declared.answer.AnswerRow.{AnswerRow}
 use Rattle.tables.specs.declared.constraint.ConstraintRow.{ConstraintRow}
 use Rattle.supply.specs.Supply.{units}
 use Rattle.affiliates.proofs.GroupLaws.{grouped-units}
-use Rattle.checking.specs.Files.{Files, constraintOf, supplyOf, schedulesOf, parentsOf, groupsOf}
+use Rattle.checking.specs.Files.{Files, constraintOf, supplyOf, scheduledOf, parentsOf, groupsOf}
 use Rattle.outcome.specs.Day.{RunningUnit, DayView}
 use Rattle.outcome.specs.Decision.{unitRow, decidedRow, decided}
 use Rattle.outcome.specs.Study.{studyRows}
@@ -43,16 +43,16 @@ module _
 module _ (d : DayView) (f : Files) where
   -- the row of a unit
   abbrev pub studyRow : ℕ → AnswerRow
-  studyRow = decidedRow (constraintOf (f .constraint)) (groupsOf f) (schedulesOf (f .schedules)) (d .running) (supplyOf (f .supply))
+  studyRow = decidedRow (constraintOf (f .constraint)) (groupsOf f) (scheduledOf f) (d .running) (supplyOf (f .supply))
 
   abbrev supply : List SupplyRow
   supply = supplyOf (f .supply)
 
   pub study-row-unit : (u : ℕ) → studyRow u .unit ≡ u
-  study-row-unit = row-unit (constraintOf (f .constraint)) (groupsOf f) (schedulesOf (f .schedules)) (d .running) supply
+  study-row-unit = row-unit (constraintOf (f .constraint)) (groupsOf f) (scheduledOf f) (d .running) supply
 
   pub study-rows-units : (us : List ℕ) → map shownUnit (map studyRow us) ≡ us
-  study-rows-units = rows-units (constraintOf (f .constraint)) (groupsOf f) (schedulesOf (f .schedules)) (d .running) supply
+  study-rows-units = rows-units (constraintOf (f .constraint)) (groupsOf f) (scheduledOf f) (d .running) supply
 
   -- a row for each unit of the supply file, since groups have the same units
   pub study-rows : studyRows d f ≡ map studyRow (units supply)

@@ -13,7 +13,7 @@ use Rattle.tables.specs.Rows.{SupplyRow, ScheduleRow}
 use Rattle.tables.specs.declared.constraint.ConstraintRow.{ConstraintRow}
 use Rattle.tables.specs.declared.files.File.the-variants.{Schedules}
 use Rattle.tables.specs.Refusals.{refused, unless}
-use Rattle.checking.specs.Files.{Files, constraintOf, supplyOf, schedulesOf, parentsOf, groupsOf, checkRefusals, checkRefusal}
+use Rattle.checking.specs.Files.{Files, constraintOf, supplyOf, scheduledOf, parentsOf, groupsOf, checkRefusals, checkRefusal}
 use Rattle.affiliates.proofs.GroupLaws.{grouped-units, grouped-agree, grouped-permitted}
 use Rattle.checking.specs.promises.Kept.{Kept}
 use Rattle.schedules.specs.Schedules.{schedulesAtOdds, unscheduled}
@@ -57,7 +57,7 @@ module _ (d : DayView) (f : Files) (e : decisionRefusal d f ≡ none) where
   -- the check refuses nothing, and 20, 21 and 22 are kept
   none-refused :
       (checkRefusal f ≡ none)
-      × (firstOf (rowsRefusals d (constraintOf (f .constraint)) (supplyOf (f .supply)) (schedulesOf (f .schedules))) ≡ none)
+      × (firstOf (rowsRefusals d (constraintOf (f .constraint)) (supplyOf (f .supply)) (scheduledOf f)) ≡ none)
   unfolding decisionRefusal decisionRefusals checkRefusal
   none-refused = first-of-parts-none (checkRefusals f) _ (first-of-none (unless (dayFormed d) 24) _ e .1)
 
@@ -81,19 +81,19 @@ module _ (d : DayView) (f : Files) (e : decisionRefusal d f ≡ none) where
   unfolding groupsOf
   groups-agree = grouped-agree (parentsOf (f .parents)) (supplyOf (f .supply)) (files-kept .supply-agrees)
 
-  cost-kept : noCostSchedule (constraintOf (f .constraint) .hour) (supplyOf (f .supply)) (schedulesOf (f .schedules)) (d .running) ≡ none
+  cost-kept : noCostSchedule (constraintOf (f .constraint) .hour) (supplyOf (f .supply)) (scheduledOf f) (d .running) ≡ none
   unfolding rowsRefusals
   cost-kept =
       option-map-none (refused 21 Schedules)
-      (noCostSchedule (constraintOf (f .constraint) .hour) (supplyOf (f .supply)) (schedulesOf (f .schedules)) (d .running))
+      (noCostSchedule (constraintOf (f .constraint) .hour) (supplyOf (f .supply)) (scheduledOf f) (d .running))
       (first-of-none _ _ (first-of-none _ _ (none-refused .1) .1) .0)
 
   pub over-limit-kept : tooManyRunning d (units (supplyOf (f .supply))) ≡ none
   unfolding rowsRefusals
   over-limit-kept = first-of-none _ _ (first-of-none _ _ (first-of-none _ _ (none-refused .1) .1) .1) .0
 
-  pub sound : Sound (constraintOf (f .constraint)) (groupsOf f) (schedulesOf (f .schedules)) (d .running)
-  unfolding noCostSchedule
+  pub sound : Sound (constraintOf (f .constraint)) (groupsOf f) (scheduledOf f) (d .running)
+  unfolding noCostSchedule scheduledOf
   sound =
       record {
         constraint = files-kept .constraint-permitted;

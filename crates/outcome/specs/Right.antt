@@ -14,7 +14,7 @@ use Rattle.tables.specs.Rows.{SupplyRow, ScheduleRow, letterOf}
 use Rattle.tables.specs.declared.answer.AnswerRow.{AnswerRow}
 use Rattle.tables.specs.declared.constraint.ConstraintRow.{ConstraintRow}
 use Rattle.tables.specs.declared.files.Kind.{Kind}
-use Rattle.checking.specs.Files.{Files, constraintOf, supplyOf, schedulesOf, groupsOf}
+use Rattle.checking.specs.Files.{Files, constraintOf, supplyOf, scheduledOf, groupsOf}
 use Rattle.schedules.specs.Schedules.{own}
 use Rattle.market.specs.Clearing.{Clears, needOf, eligibleSupply}
 use Rattle.market.specs.Parties.{party}
@@ -103,7 +103,7 @@ module _ (c : ConstraintRow) (supply : List SupplyRow) where
 -- demand 3 on one row of a study's answer
 abbrev pub RightOf : DayView → Files → AnswerRow → Type 0
 RightOf d f =
-    RightRow (constraintOf (f .constraint)) (groupsOf f) (schedulesOf (f .schedules)) (d .running) (supplyOf (f .supply))
+    RightRow (constraintOf (f .constraint)) (groupsOf f) (scheduledOf f) (d .running) (supplyOf (f .supply))
 
 -- demand 3
 pub record Right (d : DayView) (f : Files) (text : List ℕ) : Type 0 where

@@ -15,7 +15,7 @@ use Rattle.tables.specs.declared.constraint.ConstraintRow.{ConstraintRow}
 use Rattle.tables.specs.declared.files.File.the-variants.{Schedules}
 use Rattle.tables.specs.declared.files.Refusal.{Refusal}
 use Rattle.tables.specs.Refusals.{refused, unless, bareRefusal}
-use Rattle.checking.specs.Files.{Files, constraintOf, supplyOf, schedulesOf, groupsOf, checkRefusals}
+use Rattle.checking.specs.Files.{Files, constraintOf, supplyOf, scheduledOf, groupsOf, checkRefusals}
 use Rattle.supply.specs.Supply.{units}
 use Rattle.outcome.specs.Answer.{answerText}
 use Rattle.outcome.specs.Day.{RunningUnit, DayView, mostRunning, dayFormed, earlier, wouldRun, committed}
@@ -64,7 +64,7 @@ module _ (d : DayView) (f : Files) where
   -- the rows of the answer
   unfoldable pub studyRows : List AnswerRow
   studyRows =
-      decided (constraintOf (f .constraint)) (groupsOf f) (schedulesOf (f .schedules)) (d .running) (supplyOf (f .supply))
+      decided (constraintOf (f .constraint)) (groupsOf f) (scheduledOf f) (d .running) (supplyOf (f .supply))
 
   -- the answer file
   unfoldable pub answerFile : List ℕ
@@ -75,7 +75,7 @@ module _ (d : DayView) (f : Files) where
   decisionRefusals =
       unless (dayFormed d) 24
       ∷ checkRefusals f
-      ++ rowsRefusals d (constraintOf (f .constraint)) (supplyOf (f .supply)) (schedulesOf (f .schedules))
+      ++ rowsRefusals d (constraintOf (f .constraint)) (supplyOf (f .supply)) (scheduledOf f)
 
   unfoldable pub studyRefusals : ℕ → List (Option Refusal)
   studyRefusals room = decisionRefusals ++ (shortBuffer studyRows room ∷ [])

@@ -1,18 +1,20 @@
 -- Laws of rows at odds, over plain lists: a pair of rows, a row against those before it, and the first such row. Assumes
 -- nothing.
-use Prim.Native.Nat.{ℕ, suc, _+_, _≤_, _<_}
+use Prim.Native.Nat.{ℕ, zero, suc, _+_, _≤_, _<_}
 use mathlib.Core.Path.{_≡_, refl, sym, _∙_}
 use mathlib.Core.Logic.{⊎-elim}
 use mathlib.Core.Bool.{Bool, true, false, not, or-true, or-false}
-use mathlib.Core.List.{List}
-use mathlib.Core.Option.{Option·getD}
+use mathlib.Core.List.{List, List·Memᴰ as Among, List·Memᴰ·head as head, List·Memᴰ·tail as later}
+use mathlib.Core.Option.{none, Option·getD}
 use native.Mathlib.Omega.{arith}
 use native.Mathlib.Numerals.{add-one}
 use lib.Dec.{eqb}
 use lib.ListN.{getD, drop}
 use borrow.Author.Tests.{eq-eqb, ne-eqb}
 use Rattle.base.specs.Search.{any, firstAtOdds}
-use Rattle.base.proofs.Tests.{eq-or-ne, false-true}
+use Rattle.base.proofs.Elements.{none-mem}
+use Rattle.base.proofs.SearchLaws.{odds-none}
+use Rattle.base.proofs.Tests.{eq-or-ne, lt-or-ge, false-true}
 use Rattle.tables.specs.Rows.{ScheduleRow}
 use Rattle.tables.specs.Table.{M}
 use Rattle.tables.specs.promises.FlatRows.{scheduleRows}
@@ -125,3 +127,45 @@ module _ (n : ℕ) (cells : List ℕ) where
   pub agreeing-over : (k : ℕ) → Agreeing n cells k → n ≤ k → 0 ≡ Option·getD (schedulesAtOdds (scheduleRows n cells)) 0
   unfolding firstAtOdds
   agreeing-over k l h = rw (l .rest, rows-end n cells k h)
+
+-- where no row is at odds with an earlier one, rows of one schedule and hour are one row
+module _ (n : ℕ) (cells : List ℕ) (agree : schedulesAtOdds (scheduleRows n cells) ≡ none) where
+  none-before : (k : ℕ) → Agreeing n cells k → k < n → any (scheduleOdds (scheduleAt cells k)) (schedulesBefore cells k) ≡ false
+  none-before k l h =
+      odds-none scheduleOdds (schedulesBefore cells k) (suc k) (scheduleAt cells k) (drop (k + 1) (scheduleRows n cells))
+      (rw (schedule-next n cells k h) at (sym (l .rest) ∙ agree)) .0
+
+  agreed-upto : (k : ℕ) → k ≤ n → Agreeing n cells k
+  agreed-upto zero h = agreeing-none n cells
+  agreed-upto (suc k) h =
+      let l = agreed-upto k (omega arith) in
+      let next : Agreeing n cells (k + 1) = agreeing-next n cells k _ l (omega arith) refl (none-before k l (omega arith)) in
+      rw (add-one k) at next
+
+  before-mem : (k j : ℕ) → j < k → Among (scheduleAt cells j) (schedulesBefore cells k)
+  unfolding schedulesBefore
+  before-mem zero j h = absurd (omega arith)
+  before-mem (suc k) j h = ⊎-elim (λ (e : j ≡ k). rw e (head refl)) (λ (e : j ≡ k → ⊥). later (before-mem k j (omega arith))) (eq-or-ne j k)
+
+  none-earlier : (k j : ℕ) → j < k → k < n → scheduleOdds (scheduleAt cells k) (scheduleAt cells j) ≡ false
+  none-earlier k j h i =
+      none-mem (scheduleOdds (scheduleAt cells k)) (schedulesBefore cells k) (scheduleAt cells j)
+      (none-before k (agreed-upto k (omega arith)) i)
+      (before-mem k j h)
+
+  module _
+      (j k : ℕ) (in-j : j < n) (in-k : k < n) (u : scheduleAt cells j .unit ≡ scheduleAt cells k .unit)
+      (s : scheduleAt cells j .schedule ≡ scheduleAt cells k .schedule) (h : scheduleAt cells j .hour ≡ scheduleAt cells k .hour)
+    where
+      pub one-row : j ≡ k
+      one-row =
+          ⊎-elim
+          (λ (e : j ≡ k). e)
+          (λ (e : j ≡ k → ⊥). ⊎-elim before (λ (i : k ≤ j). behind (omega arith)) (lt-or-ge j k))
+          (eq-or-ne j k)
+        where
+          before : j < k → j ≡ k
+          before i = false-true (sym (odds-hours (scheduleAt cells k) (scheduleAt cells j) (sym u) (sym s) (sym h) ∙ none-earlier k j i in-k))
+
+          behind : k < j → j ≡ k
+          behind i = false-true (sym (odds-hours (scheduleAt cells j) (scheduleAt cells k) u s h ∙ none-earlier j k i in-j))

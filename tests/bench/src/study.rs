@@ -132,7 +132,8 @@ impl Study {
 
     /// The files as a study takes them.
     pub fn lend(&self) -> Files<'_> {
-        self.files.beside(&self.parents)
+        let [constraint, supply, schedules] = self.files.lend();
+        Files { constraint, supply, schedules, parents: &self.parents }
     }
 
     pub fn rows(&self) -> usize {

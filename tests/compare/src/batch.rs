@@ -58,11 +58,11 @@ fn compare_case(run: &Run, asked: &Asked, answer: &str) -> Result<Judged, String
 fn judge(line: &[u8], answer: &str) -> Result<Judged, String> {
     let shown = answer.strip_prefix("ok ").unwrap_or_default();
     match Case::read(line) {
-        Some(Case::Study { day, files, parents, .. }) if !shown.is_empty() => {
-            judge_answer(Judge::of(&files.beside(&parents), &day), shown)
+        Some(Case::Study { day, files, .. }) if !shown.is_empty() => {
+            judge_answer(Judge::of(&files.lend(), &day), shown)
         }
-        Some(Case::Preview { day, files, parents, unit }) if !shown.is_empty() => {
-            judge_row(Judge::of(&files.beside(&parents), &day), unit, shown)
+        Some(Case::Preview { day, files, unit }) if !shown.is_empty() => {
+            judge_row(Judge::of(&files.lend(), &day), unit, shown)
         }
         _ => Ok(Judged::default()),
     }

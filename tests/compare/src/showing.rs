@@ -33,9 +33,7 @@ pub fn show_case(run: &Run, asked: &Asked) -> String {
 /// The files of a case, each with its name.
 fn files_of(line: &[u8]) -> Vec<(&'static str, Vec<u8>)> {
     let (first, files) = match Case::read(line) {
-        Some(Case::Study { files, parents, .. } | Case::Preview { files, parents, .. }) => {
-            (1, files.0.into_iter().chain([parents]).collect())
-        }
+        Some(Case::Study { files, .. } | Case::Preview { files, .. }) => (1, files.0.to_vec()),
         Some(Case::Check { files }) => (1, files.0.to_vec()),
         Some(Case::Tidy { kind, file, .. }) => (kind.number() as usize, vec![file]),
         _ => (1, Vec::new()),

@@ -49,10 +49,26 @@ impl ThreeFiles {
     pub fn lend(&self) -> [&[u8]; 3] {
         self.0.each_ref().map(Vec::as_slice)
     }
+}
 
-    /// The files as a study takes them, with its parents.
-    pub fn beside<'a>(&'a self, parents: &'a [u8]) -> Files<'a> {
-        let [constraint, supply, schedules] = self.lend();
+/// The bytes of a study's files: constraint, supply, schedules and parents.
+#[derive(Clone, Debug, PartialEq, Eq)]
+pub struct StudyFiles(pub [Vec<u8>; 4]);
+
+impl StudyFiles {
+    /// Where schedules and parents stand among them.
+    pub const SCHEDULES: usize = 2;
+    pub const PARENTS: usize = 3;
+
+    /// The same files, but for one that is empty.
+    pub fn without(mut self, place: usize) -> StudyFiles {
+        self.0[place].clear();
+        self
+    }
+
+    /// The files as a study takes them.
+    pub fn lend(&self) -> Files<'_> {
+        let [constraint, supply, schedules, parents] = self.0.each_ref().map(Vec::as_slice);
         Files { constraint, supply, schedules, parents }
     }
 }
@@ -60,12 +76,12 @@ impl ThreeFiles {
 /// What a line asks.
 #[derive(Clone, Debug, PartialEq, Eq)]
 pub enum Case {
-    Study { day: Day, files: ThreeFiles, parents: Vec<u8>, buffer: u64 },
+    Study { day: Day, files: StudyFiles, buffer: u64 },
     Release { day: Day, unit: u64 },
     Test { need: u64, place: u64, amounts: Vec<u64> },
     Check { files: ThreeFiles },
     Tidy { kind: FileKind, file: Vec<u8>, buffer: u64 },
-    Preview { day: Day, files: ThreeFiles, parents: Vec<u8>, unit: u64 },
+    Preview { day: Day, files: StudyFiles, unit: u64 },
 }
 
 /// The answer to a line.
@@ -84,8 +100,7 @@ impl Case {
         match words[..] {
             ["study", day, c, s, h, p, buffer] => Some(Case::Study {
                 day: read_day(day)?,
-                files: read_files([c, s, h])?,
-                parents: read_hex(p)?,
+                files: StudyFiles(read_files([c, s, h, p])?),
                 buffer: read_length(buffer, LONGEST_BUFFER)?,
             }),
             ["release", day, unit] => Some(Case::Release { day: read_day(day)?, unit: read_number(unit)? }),
@@ -94,7 +109,7 @@ impl Case {
                 place: read_number(place)?,
                 amounts: read_amounts(amounts)?,
             }),
-            ["check", c, s, h] => Some(Case::Check { files: read_files([c, s, h])? }),
+            ["check", c, s, h] => Some(Case::Check { files: ThreeFiles(read_files([c, s, h])?) }),
             ["tidy", number, file, buffer] => Some(Case::Tidy {
                 kind: FileKind::numbered(read_number(number)?)?,
                 file: read_hex(file)?,
@@ -102,8 +117,7 @@ impl Case {
             }),
             ["preview", day, c, s, h, p, unit] => Some(Case::Preview {
                 day: read_day(day)?,
-                files: read_files([c, s, h])?,
-                parents: read_hex(p)?,
+                files: StudyFiles(read_files([c, s, h, p])?),
                 unit: read_number(unit)?,
             }),
             _ => None,
@@ -113,7 +127,7 @@ impl Case {
     /// What the model answers.
     pub fn answer(self) -> String {
         match self {
-            Case::Study { day, files, parents, buffer } => answer_study(day, &files.beside(&parents), buffer),
+            Case::Study { day, files, buffer } => answer_study(day, &files.lend(), buffer),
             Case::Release { day, unit } => match day.release(unit) {
                 (day, Ok(())) => format!("ok {day}"),
                 (_, Err(refusal)) => refusal.to_string(),
@@ -124,7 +138,7 @@ impl Case {
             },
             Case::Check { files } => check(files.lend()).to_string(),
             Case::Tidy { kind, file, buffer } => answer_tidy(kind, &file, buffer),
-            Case::Preview { day, files, parents, unit } => match day.preview(&files.beside(&parents), unit) {
+            Case::Preview { day, files, unit } => match day.preview(&files.lend(), unit) {
                 Ok(row) => format!("ok {row}"),
                 Err(refusal) => refusal.to_string(),
             },
@@ -188,17 +202,25 @@ impl Display for Day {
 
 impl Display for ThreeFiles {
     fn fmt(&self, out: &mut Formatter) -> fmt::Result {
-        let [constraint, supply, schedules] = &self.0;
-        write!(out, "{} {} {}", Hex(constraint), Hex(supply), Hex(schedules))
+        write_files(&self.0, out)
     }
+}
+
+impl Display for StudyFiles {
+    fn fmt(&self, out: &mut Formatter) -> fmt::Result {
+        write_files(&self.0, out)
+    }
+}
+
+fn write_files(files: &[Vec<u8>], out: &mut Formatter) -> fmt::Result {
+    let words: Vec<String> = files.iter().map(|file| Hex(file).to_string()).collect();
+    out.write_str(&words.join(" "))
 }
 
 impl Display for Case {
     fn fmt(&self, out: &mut Formatter) -> fmt::Result {
         match self {
-            Case::Study { day, files, parents, buffer } => {
-                write!(out, "study {day} {files} {} {buffer}", Hex(parents))
-            }
+            Case::Study { day, files, buffer } => write!(out, "study {day} {files} {buffer}"),
             Case::Release { day, unit } => write!(out, "release {day} {unit}"),
             Case::Test { need, place, amounts } if amounts.is_empty() => write!(out, "test {need} {place} ."),
             Case::Test { need, place, amounts } => {
@@ -209,9 +231,7 @@ impl Display for Case {
             Case::Tidy { kind, file, buffer } => {
                 write!(out, "tidy {} {} {buffer}", kind.number(), Hex(file))
             }
-            Case::Preview { day, files, parents, unit } => {
-                write!(out, "preview {day} {files} {} {unit}", Hex(parents))
-            }
+            Case::Preview { day, files, unit } => write!(out, "preview {day} {files} {unit}"),
         }
     }
 }
@@ -267,9 +287,9 @@ fn read_length(text: &str, longest: u64) -> Option<u64> {
     read_number(text).filter(|&length| length <= longest)
 }
 
-fn read_files(words: [&str; 3]) -> Option<ThreeFiles> {
-    let [c, s, h] = words;
-    Some(ThreeFiles([read_hex(c)?, read_hex(s)?, read_hex(h)?]))
+fn read_files<const COUNT: usize>(words: [&str; COUNT]) -> Option<[Vec<u8>; COUNT]> {
+    let files: Vec<Vec<u8>> = words.into_iter().map(read_hex).collect::<Option<_>>()?;
+    files.try_into().ok()
 }
 
 fn read_amounts(text: &str) -> Option<Vec<u64>> {

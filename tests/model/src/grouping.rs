@@ -2,7 +2,7 @@
 
 use std::collections::BTreeSet;
 
-use crate::case::{Case, LONGEST_BUFFER};
+use crate::case::{Case, StudyFiles, LONGEST_BUFFER};
 use crate::parents::{chain, head};
 use crate::rules::Filing;
 
@@ -22,10 +22,9 @@ pub struct Grouping {
 impl Grouping {
     /// The grouping of a case, or `None` where it isn't a study that can be read, with rows of parents.
     pub fn of(line: &[u8]) -> Option<Grouping> {
-        let Case::Study { day, files, parents, .. } = Case::read(line)? else { return None };
-        let filing =
-            Filing::read(&files.beside(&parents)).ok().filter(|filing| !filing.parents.is_empty())?;
-        let alone = Case::Study { day, files, parents: Vec::new(), buffer: LONGEST_BUFFER };
+        let Case::Study { day, files, .. } = Case::read(line)? else { return None };
+        let filing = Filing::read(&files.lend()).ok().filter(|filing| !filing.parents.is_empty())?;
+        let alone = Case::Study { day, files: files.without(StudyFiles::PARENTS), buffer: LONGEST_BUFFER };
         Some(Grouping {
             longest_chain: longest_chain(&filing),
             absent_head: has_absent_head(&filing),

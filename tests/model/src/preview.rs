@@ -22,7 +22,7 @@ mod tests {
 
     use super::*;
     use crate::answer::LONGEST;
-    use crate::case::{Case, ThreeFiles};
+    use crate::case::{Case, StudyFiles};
     use crate::day::Running;
     use crate::generator;
     use crate::judge::Judge;
@@ -89,11 +89,11 @@ mod tests {
         assert_eq!(preview(&Day::fresh(), &without_supply, 11), Err(Refusal::nowhere(31)));
     }
 
-    /// Made previews: day, files, parents and unit.
-    fn made() -> Vec<(Day, ThreeFiles, Vec<u8>, u64)> {
+    /// Made previews: day, files and unit.
+    fn made() -> Vec<(Day, StudyFiles, u64)> {
         let cases = (0..4_000).filter_map(|index| Case::read(&generator::make(1, index).bytes));
         let previews = cases.filter_map(|case| match case {
-            Case::Preview { day, files, parents, unit } => Some((day, files, parents, unit)),
+            Case::Preview { day, files, unit } => Some((day, files, unit)),
             _ => None,
         });
         previews.collect()
@@ -103,8 +103,8 @@ mod tests {
     fn a_study_with_room_enough_agrees() {
         let made = made();
         assert!(made.len() > 400, "{}", made.len());
-        for (day, files, parents, unit) in &made {
-            let files = files.beside(parents);
+        for (day, files, unit) in &made {
+            let files = files.lend();
             let row = day.preview(&files, *unit).map(|row| row.to_string());
             assert_eq!(row, by_study(day, &files, *unit));
         }
@@ -114,8 +114,8 @@ mod tests {
     #[test]
     fn the_judge_accepts_a_previewed_row_for_its_unit_alone() {
         let mut judged = 0;
-        for (day, files, parents, unit) in made() {
-            let files = files.beside(&parents);
+        for (day, files, unit) in made() {
+            let files = files.lend();
             let (Ok(row), Some(judge)) = (day.preview(&files, unit), Judge::of(&files, &day)) else {
                 continue;
             };

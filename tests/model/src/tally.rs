@@ -5,7 +5,7 @@ use std::collections::BTreeMap;
 use std::fmt::{self, Display, Formatter};
 use std::ops::RangeInclusive;
 
-use crate::case::{read_hex, Case, ThreeFiles, UNREADABLE};
+use crate::case::{read_hex, Case, StudyFiles, UNREADABLE};
 use crate::day::Day;
 use crate::grouping::Grouping;
 use crate::table::read_supply;
@@ -333,7 +333,7 @@ fn reached_by_tidy(case: &[u8], hex: &str) -> Vec<Reached> {
 
 /// What a preview reached.
 fn reached_by_preview(case: &[u8], answer: &str) -> Vec<Reached> {
-    let Some(Case::Preview { day, files, parents, unit }) = Case::read(case) else { return Vec::new() };
+    let Some(Case::Preview { day, files, unit }) = Case::read(case) else { return Vec::new() };
     let words: Vec<&str> = answer.split([' ', ',']).collect();
     let (what, found) = match words[..] {
         ["no", number, file, _] => {
@@ -346,10 +346,10 @@ fn reached_by_preview(case: &[u8], answer: &str) -> Vec<Reached> {
             (Reached::NotPreviewed(number, count(file)), found)
         }
         ["ok", _, _, verdict, ..] => {
-            let other = |day, parents| Case::Preview { day, files: files.clone(), parents, unit }.answer();
+            let other = |day, files| Case::Preview { day, files, unit }.answer();
             let found = vec![
-                (other(Day::fresh(), parents) != answer, Reached::PreviewedByDay),
-                (other(day, Vec::new()) != answer, Reached::PreviewedByParents),
+                (other(Day::fresh(), files.clone()) != answer, Reached::PreviewedByDay),
+                (other(day, files.without(StudyFiles::PARENTS)) != answer, Reached::PreviewedByParents),
             ];
             (Reached::Previewed(verdict.chars().next().unwrap_or_default()), found)
         }
@@ -360,9 +360,8 @@ fn reached_by_preview(case: &[u8], answer: &str) -> Vec<Reached> {
 }
 
 /// Whether the supply file can be read and has the unit.
-fn supplies(files: &ThreeFiles, unit: u64) -> bool {
-    let [_, supply, _] = files.lend();
-    read_supply(supply).is_ok_and(|rows| rows.iter().any(|row| row.unit == unit))
+fn supplies(files: &StudyFiles, unit: u64) -> bool {
+    read_supply(files.lend().supply).is_ok_and(|rows| rows.iter().any(|row| row.unit == unit))
 }
 
 fn count(word: &str) -> u64 {

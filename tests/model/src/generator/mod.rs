@@ -13,7 +13,7 @@ mod supply;
 mod tidy;
 
 use crate::answer::LONGEST;
-use crate::case::{Case, ThreeFiles, LONGEST_BUFFER};
+use crate::case::{Case, StudyFiles, ThreeFiles, LONGEST_BUFFER};
 use crate::day::Day;
 use crate::rules::Files;
 use draft::Draft;
@@ -57,28 +57,15 @@ pub fn make(seed: u64, index: u64) -> Line {
 fn make_study(random: &mut Random) -> Case {
     let faults = make_faults(&NUMBERS, random);
     let (Draft { day, .. }, files) = make_files(&faults, random);
-    let (files, parents) = split(files);
-    let buffer = make_buffer(faults.contains(&10), &day, &files.beside(&parents), random);
-    Case::Study { day, files, parents, buffer }
+    let buffer = make_buffer(faults.contains(&10), &day, &files.lend(), random);
+    Case::Study { day, files, buffer }
 }
 
 /// A check of files as a study has them.
 fn make_check(random: &mut Random) -> Case {
     let faults = make_faults(&NUMBERS, random);
-    let (_, files) = make_files(&faults, random);
-    Case::Check { files: split(files).0 }
-}
-
-/// Constraint, supply, schedules and parents of a study, in this order.
-type StudyFiles = [Vec<u8>; 4];
-
-/// Where schedules and parents stand among them.
-const SCHEDULES: usize = 2;
-const PARENTS: usize = 3;
-
-/// The files of a check, and the parents.
-fn split([constraint, supply, schedules, parents]: StudyFiles) -> (ThreeFiles, Vec<u8>) {
-    (ThreeFiles([constraint, supply, schedules]), parents)
+    let (_, StudyFiles([constraint, supply, schedules, ..])) = make_files(&faults, random);
+    Case::Check { files: ThreeFiles([constraint, supply, schedules]) }
 }
 
 /// The files with the faults in them, and the draft that they were written from.
@@ -95,7 +82,7 @@ fn make_files(faults: &[u64], random: &mut Random) -> (Draft, StudyFiles) {
         let file = random.index(sheets.len());
         spoil_sheet(number, &mut sheets[file], random);
     }
-    let mut files = write(sheets, random);
+    let StudyFiles(mut files) = write(sheets, random);
     for _ in faults.iter().filter(|&&number| number == 1) {
         let file = random.index(files.len());
         damage(&mut files[file], random);
@@ -104,7 +91,7 @@ fn make_files(faults: &[u64], random: &mut Random) -> (Draft, StudyFiles) {
         let file = random.index(files.len());
         disturb(&mut files[file], random);
     }
-    (draft, files)
+    (draft, StudyFiles(files))
 }
 
 fn sheets(draft: &Draft) -> [Sheet; 4] {
@@ -118,10 +105,10 @@ fn sheets(draft: &Draft) -> [Sheet; 4] {
 
 /// The bytes of the sheets. Parents of the header alone may as well be no bytes.
 fn write(sheets: [Sheet; 4], random: &mut Random) -> StudyFiles {
-    let no_parents = sheets[PARENTS].records == Sheet::parents(&[]).records;
-    let mut files = sheets.map(|sheet| sheet.write(random));
+    let no_parents = sheets[StudyFiles::PARENTS].records == Sheet::parents(&[]).records;
+    let files = StudyFiles(sheets.map(|sheet| sheet.write(random)));
     if no_parents && random.percent(60) {
-        files[PARENTS].clear();
+        return files.without(StudyFiles::PARENTS);
     }
     files
 }
@@ -131,17 +118,18 @@ fn write(sheets: [Sheet; 4], random: &mut Random) -> StudyFiles {
 fn make_brimming(random: &mut Random) -> (Draft, StudyFiles) {
     let draft = Draft::make_brimming(random);
     let mut sheets = sheets(&draft);
-    let full = if random.percent(50) { Some(sheets[SCHEDULES].write_brimming(random)) } else { None };
-    let mut files = write(sheets, random);
+    let schedules = &mut sheets[StudyFiles::SCHEDULES];
+    let full = if random.percent(50) { Some(schedules.write_brimming(random)) } else { None };
+    let StudyFiles(mut files) = write(sheets, random);
     match full {
-        Some(schedules) => files[SCHEDULES] = schedules,
+        Some(schedules) => files[StudyFiles::SCHEDULES] = schedules,
         None => {
             let filler = random.pick(b"0159 ");
             let file = &mut files[random.index(files.len())];
             file.extend(std::iter::repeat_n(filler, LARGEST_FILE.saturating_sub(file.len())));
         }
     }
-    (draft, files)
+    (draft, StudyFiles(files))
 }
 
 /// A buffer's length: ample, or right at the answer's own.
@@ -171,9 +159,8 @@ mod tests {
     use super::*;
 
     /// Whether a draft's files are accepted on its day.
-    fn accepted(day: Day, files: StudyFiles) -> bool {
-        let (files, parents) = split(files);
-        day.study(&files.beside(&parents), &mut [0; LONGEST]).1.is_ok()
+    fn accepted(day: Day, files: &StudyFiles) -> bool {
+        day.study(&files.lend(), &mut [0; LONGEST]).1.is_ok()
     }
 
     #[test]
@@ -182,7 +169,7 @@ mod tests {
             let random = &mut Random::of(1, index);
             let draft = Draft::make(random);
             let files = write(sheets(&draft), random);
-            assert!(accepted(draft.day, files), "{index}");
+            assert!(accepted(draft.day, &files), "{index}");
         }
     }
 
@@ -192,10 +179,11 @@ mod tests {
             let random = &mut Random::of(2, index);
             let draft = Draft::make_brimming(random);
             let mut sheets = sheets(&draft);
-            let schedules = sheets[SCHEDULES].write_brimming(random);
+            let schedules = sheets[StudyFiles::SCHEDULES].write_brimming(random);
             assert_eq!(schedules.len(), LARGEST_FILE);
-            let [constraint, supply, _, parents] = write(sheets, random);
-            assert!(accepted(draft.day, [constraint, supply, schedules, parents]), "{index}");
+            let mut files = write(sheets, random);
+            files.0[StudyFiles::SCHEDULES] = schedules;
+            assert!(accepted(draft.day, &files), "{index}");
         }
     }
 

@@ -3,8 +3,8 @@
 
 use super::draft::{different, Draft};
 use super::faults::make_faults;
+use super::make_files;
 use super::random::Random;
-use super::{make_files, split};
 use crate::case::Case;
 
 /// The faults of a preview: the refusals of a study but 10, and those of the day more often than there,
@@ -23,8 +23,7 @@ pub fn make_preview(random: &mut Random) -> Case {
     let faults = make_faults(&NUMBERS, random);
     let (draft, files) = make_files(&faults, random);
     let unit = make_unit(&draft, random);
-    let (files, parents) = split(files);
-    Case::Preview { day: draft.day, files, parents, unit }
+    Case::Preview { day: draft.day, files, unit }
 }
 
 /// A unit: most often one of the supply file, the first and the last among them; else one that only the
@@ -98,8 +97,7 @@ mod tests {
         for index in 0..1_000 {
             let case = make_preview(&mut Random::of(1, index));
             let Case::Preview { day, files, unit, .. } = case else { panic!("{case}") };
-            let [_, supply, _] = files.lend();
-            if let Ok(rows) = read_supply(supply) {
+            if let Ok(rows) = read_supply(files.lend().supply) {
                 let supplied = different(rows.iter().map(|row| row.unit));
                 *counts.entry(sort(unit, &supplied, &day)).or_default() += 1;
             }

@@ -4,10 +4,11 @@
  * Holds for each call: a run of bytes or amounts is a pointer, then how many there are, and no pointer may be NULL, not even
  * with length 0. Everything belongs to the caller: what is const is only read, what isn't is written during the call, and
  * nothing is kept or freed. What is written may overlap nothing else that is lent to the same call. There is no state but the
- * days that callers keep, so threads may call at the same time, on a day each. A call takes up to 136 KiB of stack.
+ * days that callers keep, so threads may call at the same time, on a day each. A call takes up to 136 KiB of stack,
+ * and one with curves up to 304 KiB.
  *
- * A parents file of length 0 is none; each other file of length 0 is one record with one blank field. docs/REFUSALS.md says
- * what each number means and how to mend it. */
+ * A curves or a parents file of length 0 is none; each other file of length 0 is one record with one blank field.
+ * docs/REFUSALS.md says what each number means and how to mend it. */
 #ifndef CAPPING_H
 #define CAPPING_H
 
@@ -29,7 +30,8 @@ extern "C" {
 #define CAPPING_LONGEST_TIDY_SUPPLY 7964
 #define CAPPING_LONGEST_TIDY_SCHEDULES 52284
 
-/* What to pass for parents and its length where there is no such file: no bytes, behind a pointer that isn't NULL. */
+/* What to pass for curves or parents and the length where there is no such file: no bytes, behind a pointer that isn't NULL. */
+#define CAPPING_NO_CURVES (const uint8_t *)"", 0
 #define CAPPING_NO_PARENTS (const uint8_t *)"", 0
 
 /* What capping_test answers. */
@@ -42,22 +44,24 @@ extern "C" {
 #define CAPPING_DAY_CELLS 195
 #define CAPPING_DAY_UNITS 64
 
-/* Checks three files of a study, each as its bytes; parents play no part.
+/* Checks three files of a study, each as its bytes; curves and parents play no part.
  *
- * Answers 0 if no rule is broken, else the number of the first refusal, 1 to 9, that a study of them without parents gives. */
+ * Answers 0 if no rule is broken, else the number of the first refusal, 1 to 9, that a study of these three alone gives. */
 uint64_t capping_check(const uint8_t *constraint, size_t constraint_len,
                        const uint8_t *supply, size_t supply_len,
                        const uint8_t *schedules, size_t schedules_len);
 
-/* Studies the files on a fresh day, and writes the answer file from the start of the buffer. Parents name affiliated suppliers,
- * which are tested as one; CAPPING_NO_PARENTS stands for none.
+/* Studies the files on a fresh day, and writes the answer file from the start of the buffer. Curves have the points of offer
+ * curves, whose price at ecomin stands in place of the price in schedules; CAPPING_NO_CURVES stands for none. Parents name
+ * affiliated suppliers, which are tested as one; CAPPING_NO_PARENTS stands for none.
  *
  * Answers how many bytes it wrote; the rest of the buffer stays. Where the study is refused it answers 0, and no byte of
- * the buffer has changed. The report is then number, file (1 constraint, 2 supply, 3 schedules, 5 parents, 0 none) and place;
- * it is 0, 0, 0 where the study is accepted. A buffer shorter than the answer is refused with 10. */
+ * the buffer has changed. The report is then number, file (1 constraint, 2 supply, 3 schedules, 4 curves, 5 parents, 0 none)
+ * and place; it is 0, 0, 0 where the study is accepted. A buffer shorter than the answer is refused with 10. */
 uint64_t capping_study(const uint8_t *constraint, size_t constraint_len,
                        const uint8_t *supply, size_t supply_len,
                        const uint8_t *schedules, size_t schedules_len,
+                       const uint8_t *curves, size_t curves_len,
                        const uint8_t *parents, size_t parents_len,
                        uint8_t *answer, size_t answer_len,
                        uint64_t report[3]);
@@ -96,6 +100,7 @@ uint64_t capping_day_study(uint64_t day[CAPPING_DAY_CELLS],
                            const uint8_t *constraint, size_t constraint_len,
                            const uint8_t *supply, size_t supply_len,
                            const uint8_t *schedules, size_t schedules_len,
+                           const uint8_t *curves, size_t curves_len,
                            const uint8_t *parents, size_t parents_len,
                            uint8_t *answer, size_t answer_len,
                            uint64_t report[3]);
@@ -122,6 +127,7 @@ uint64_t capping_preview(const uint64_t day[CAPPING_DAY_CELLS],
                          const uint8_t *constraint, size_t constraint_len,
                          const uint8_t *supply, size_t supply_len,
                          const uint8_t *schedules, size_t schedules_len,
+                         const uint8_t *curves, size_t curves_len,
                          const uint8_t *parents, size_t parents_len,
                          uint64_t unit,
                          uint64_t row[CAPPING_ROW_CELLS],

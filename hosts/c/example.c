@@ -26,17 +26,18 @@ static void print_day(const uint64_t *day) {
 }
 
 int main(void) {
-    static uint8_t c[FILE_ROOM], s[FILE_ROOM], h[FILE_ROOM], p[FILE_ROOM];
+    static uint8_t c[FILE_ROOM], s[FILE_ROOM], h[FILE_ROOM], k[FILE_ROOM], p[FILE_ROOM];
     size_t c_len = read_file("constraint.csv", c), s_len = read_file("supply.csv", s), h_len = read_file("schedules.csv", h);
-    size_t p_len = read_file("parents.csv", p);
+    size_t k_len = read_file("curves.csv", k), p_len = read_file("parents.csv", p);
 
     uint8_t answer[CAPPING_LONGEST_ANSWER];
     uint64_t day[CAPPING_DAY_CELLS], row[CAPPING_ROW_CELLS], report[3];
     capping_day_fresh(day);
-    if (capping_preview(day, c, c_len, s, s_len, h, h_len, p, p_len, 14, row, report) == 0)
+    if (capping_preview(day, c, c_len, s, s_len, h, h_len, k, k_len, p, p_len, 14, row, report) == 0)
         printf("unit 14 would run on %c schedule %" PRIu64 "\n", (char)row[CAPPING_ROW_KIND], row[CAPPING_ROW_SCHEDULE]);
 
-    uint64_t count = capping_day_study(day, c, c_len, s, s_len, h, h_len, p, p_len, answer, sizeof answer, report);
+    uint64_t count =
+        capping_day_study(day, c, c_len, s, s_len, h, h_len, k, k_len, p, p_len, answer, sizeof answer, report);
     if (count == 0) printf("refused: %d, file %d, place %d\n", (int)report[0], (int)report[1], (int)report[2]);
     else fwrite(answer, 1, count, stdout);
 

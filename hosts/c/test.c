@@ -55,37 +55,31 @@ static const struct study studies[] = {
     {"unit 12 without its second hour", 99, "", {9, 3, 12}, {HOUR_5, TWO_UNITS, BOTH_UNITS "12,2,C,5,100,3000,0,0,2\r\n"}},
 };
 
-/* A study with a parents file. */
-struct parents_study {
-    const char *parents;
-    struct study study;
-};
-
 /* Files that are refused with 7 and with 8. */
 #define UNIT_15_ASTRAY {HOUR_5, STARRED_SUPPLY, STARRED_SCHEDULES "15,1,C,5,100,3000,0,0,1\r\n"}
 #define NO_SCHEDULES {HOUR_5, STARRED_SUPPLY, SCHEDULES}
 
-static const struct parents_study parents_studies[] = {
-    {"", {"parents of no bytes", ENOUGH, STARRED_ANSWER, {0, 0, 0}, STARRED}},
-    {PARENTS, {"parents without rows", ENOUGH, STARRED_ANSWER, {0, 0, 0}, STARRED}},
-    {PARENTS "5,6\r\n", {"parents of no supplier that has supply", ENOUGH, STARRED_ANSWER, {0, 0, 0}, STARRED}},
-    {PARENTS "1,2\r\n", {"a supplier and its parent", ENOUGH, AFFILIATED_ANSWER, {0, 0, 0}, STARRED}},
-    {PARENTS "\"1\",2", {"parents quoted, without the last CR LF", ENOUGH, AFFILIATED_ANSWER, {0, 0, 0}, STARRED}},
-    {PARENTS "4,900\r\n1,900\r\n", {"a parent that isn't in supply", ENOUGH, AFFILIATED_ANSWER, {0, 0, 0}, STARRED}},
-    {PARENTS "1,5\r\n5,6\r\n2,6\r\n", {"a chain of two steps", ENOUGH, AFFILIATED_ANSWER, {0, 0, 0}, STARRED}},
-    {PARENTS "1,2\r\n", {"parents and a buffer one short", sizeof AFFILIATED_ANSWER - 2, "", {10, 0, 0}, STARRED}},
-    {PARENTS "1,2\n", {"LF alone in parents", ENOUGH, "", {1, 5, 0}, STARRED}},
-    {"\r\n", {"a blank line for parents", ENOUGH, "", {2, 5, 0}, STARRED}},
-    {PARENTS "1,2\r\n3\r\n", {"one field in the second row of parents", ENOUGH, "", {2, 5, 2}, STARRED}},
-    {PARENTS "1,2\r\n3,1000\r\n", {"parent 1000", ENOUGH, "", {3, 5, 2}, STARRED}},
-    {PARENTS "0,1\r\n", {"supplier 0", ENOUGH, "", {3, 5, 1}, STARRED}},
-    {PARENTS "1,2\r\n1,3\r\n", {"two parents", ENOUGH, "", {35, 5, 2}, STARRED}},
-    {PARENTS "1,2\r\n1,2\r\n", {"a parent named twice", ENOUGH, "", {35, 5, 2}, STARRED}},
-    {PARENTS "1,2\r\n2,3\r\n3,2\r\n", {"a chain that leads into a ring", ENOUGH, "", {36, 5, 2}, STARRED}},
-    {PARENTS "1,1\r\n", {"a supplier that names itself", ENOUGH, "", {36, 5, 1}, STARRED}},
-    {PARENTS "1,1\r\n2,3\r\n2,4\r\n", {"two parents behind a ring", ENOUGH, "", {35, 5, 3}, STARRED}},
-    {PARENTS "1,2\n", {"a stray unit before parents", ENOUGH, "", {7, 3, 8}, UNIT_15_ASTRAY}},
-    {PARENTS "1,1\r\n", {"a ring before a unit without a schedule", ENOUGH, "", {36, 5, 1}, NO_SCHEDULES}},
+static const struct study_beside parents_studies[] = {
+    {{"", ""}, {"parents of no bytes", ENOUGH, STARRED_ANSWER, {0, 0, 0}, STARRED}},
+    {{"", PARENTS}, {"parents without rows", ENOUGH, STARRED_ANSWER, {0, 0, 0}, STARRED}},
+    {{"", PARENTS "5,6\r\n"}, {"parents of no supplier that has supply", ENOUGH, STARRED_ANSWER, {0, 0, 0}, STARRED}},
+    {{"", PARENTS "1,2\r\n"}, {"a supplier and its parent", ENOUGH, AFFILIATED_ANSWER, {0, 0, 0}, STARRED}},
+    {{"", PARENTS "\"1\",2"}, {"parents quoted, without the last CR LF", ENOUGH, AFFILIATED_ANSWER, {0, 0, 0}, STARRED}},
+    {{"", PARENTS "4,900\r\n1,900\r\n"}, {"a parent that isn't in supply", ENOUGH, AFFILIATED_ANSWER, {0, 0, 0}, STARRED}},
+    {{"", PARENTS "1,5\r\n5,6\r\n2,6\r\n"}, {"a chain of two steps", ENOUGH, AFFILIATED_ANSWER, {0, 0, 0}, STARRED}},
+    {{"", PARENTS "1,2\r\n"}, {"parents and a buffer one short", sizeof AFFILIATED_ANSWER - 2, "", {10, 0, 0}, STARRED}},
+    {{"", PARENTS "1,2\n"}, {"LF alone in parents", ENOUGH, "", {1, 5, 0}, STARRED}},
+    {{"", "\r\n"}, {"a blank line for parents", ENOUGH, "", {2, 5, 0}, STARRED}},
+    {{"", PARENTS "1,2\r\n3\r\n"}, {"one field in the second row of parents", ENOUGH, "", {2, 5, 2}, STARRED}},
+    {{"", PARENTS "1,2\r\n3,1000\r\n"}, {"parent 1000", ENOUGH, "", {3, 5, 2}, STARRED}},
+    {{"", PARENTS "0,1\r\n"}, {"supplier 0", ENOUGH, "", {3, 5, 1}, STARRED}},
+    {{"", PARENTS "1,2\r\n1,3\r\n"}, {"two parents", ENOUGH, "", {35, 5, 2}, STARRED}},
+    {{"", PARENTS "1,2\r\n1,2\r\n"}, {"a parent named twice", ENOUGH, "", {35, 5, 2}, STARRED}},
+    {{"", PARENTS "1,2\r\n2,3\r\n3,2\r\n"}, {"a chain that leads into a ring", ENOUGH, "", {36, 5, 2}, STARRED}},
+    {{"", PARENTS "1,1\r\n"}, {"a supplier that names itself", ENOUGH, "", {36, 5, 1}, STARRED}},
+    {{"", PARENTS "1,1\r\n2,3\r\n2,4\r\n"}, {"two parents behind a ring", ENOUGH, "", {35, 5, 3}, STARRED}},
+    {{"", PARENTS "1,2\n"}, {"a stray unit before parents", ENOUGH, "", {7, 3, 8}, UNIT_15_ASTRAY}},
+    {{"", PARENTS "1,1\r\n"}, {"a ring before a unit without a schedule", ENOUGH, "", {36, 5, 1}, NO_SCHEDULES}},
 };
 
 /* A test of one supplier. */
@@ -126,14 +120,14 @@ static void expect_test(const struct one_test *t) {
     free(amounts);
 }
 
-/* No parents, as a caller writes it. */
-static void expect_no_parents(void) {
+/* Neither curves nor parents, as a caller writes it. */
+static void expect_nothing_beside(void) {
     const struct files texts = STARRED;
     struct lent files = lend(&texts);
     uint8_t answer[ENOUGH];
     uint64_t report[3];
-    uint64_t count = capping_study(LENT(files), CAPPING_NO_PARENTS, answer, sizeof answer, report);
-    require("no parents", "another answer", count == sizeof STARRED_ANSWER - 1 && memcmp(answer, STARRED_ANSWER, count) == 0);
+    uint64_t count = capping_study(LENT(files), CAPPING_NO_CURVES, CAPPING_NO_PARENTS, answer, sizeof answer, report);
+    require("nothing beside", "another answer", count == sizeof STARRED_ANSWER - 1 && memcmp(answer, STARRED_ANSWER, count) == 0);
     take_back(files);
 }
 
@@ -143,9 +137,9 @@ static void expect_chains(void) {
     static const struct study too_many = {"65 parents", ENOUGH, "", {4, 5, 0}, STARRED};
     char chain[CHAIN_ROOM];
     write_chain(chain, MOST_PARENTS);
-    expect_study_with(chain, &most, NULL);
+    expect_study_with((struct beside){"", chain}, &most, NULL);
     write_chain(chain, MOST_PARENTS + 1);
-    expect_study_with(chain, &too_many, NULL);
+    expect_study_with((struct beside){"", chain}, &too_many, NULL);
 }
 
 int main(void) {
@@ -159,8 +153,8 @@ int main(void) {
     for (size_t i = 0; i < sizeof studies / sizeof *studies; i++)
         expect_study(&studies[i], NULL);
     for (size_t i = 0; i < sizeof parents_studies / sizeof *parents_studies; i++)
-        expect_study_with(parents_studies[i].parents, &parents_studies[i].study, NULL);
-    expect_no_parents();
+        expect_study_with(parents_studies[i].beside, &parents_studies[i].study, NULL);
+    expect_nothing_beside();
     expect_chains();
     for (size_t i = 0; i < sizeof tests / sizeof *tests; i++)
         expect_test(&tests[i]);

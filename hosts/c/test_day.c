@@ -2,12 +2,16 @@
  * with zeros behind the count; refused, every cell is as it was. What each must answer was worked from documents 01 and 02. */
 #include "testing.h"
 
-/* The starred example where its units run already, without affiliated suppliers and with them: nothing is added for their start. */
+/* The starred example where its units run already, alone, with affiliated suppliers and with the curve of unit 11: nothing is
+ * added for their start. */
 #define STARRED_AGAIN \
     ANSWER_HEADER "11,1,F,0,2,C,830000\r\n12,2,F,0,1,M,330000\r\n13,3,F,0,1,C,880000\r\n14,4,F,5000000,1,M,500000\r\n"
 
 #define AFFILIATED_AGAIN \
     ANSWER_HEADER "11,1,F,0,2,C,830000\r\n12,2,F,0,1,M,330000\r\n13,3,F,0,1,C,880000\r\n14,4,F,0,1,M,500000\r\n"
+
+#define CURVE_11_AGAIN \
+    ANSWER_HEADER "11,1,F,0,2,C,720000\r\n12,2,F,0,1,M,330000\r\n13,3,F,0,1,C,880000\r\n14,4,F,5000000,1,M,500000\r\n"
 
 /* The same where units 11 and 12 run, and where unit 12 runs on cost; the others start. */
 #define STARRED_11_AND_12_RUN \
@@ -49,21 +53,30 @@ static const struct day_study day_studies[] = {
     {"5;12:M:1", "5;12:M:1", {"an empty constraint", ENOUGH, "", {2, 1, 0}, {"", "", ""}}},
 };
 
-/* The same with a parents file. */
-struct parents_day_study {
-    const char *parents;
+/* The same with what is beside the files. */
+struct day_study_beside {
+    struct beside beside;
     struct day_study day_study;
 };
 
-static const struct parents_day_study parents_day_studies[] = {
-    {PARENTS "1,2\r\n", {"-", STARRED_DAY, {"affiliated suppliers", ENOUGH, AFFILIATED_ANSWER, {0, 0, 0}, STARRED}}},
-    {PARENTS "4,900\r\n1,900\r\n",
+static const struct day_study_beside day_studies_beside[] = {
+    {{"", PARENTS "1,2\r\n"}, {"-", STARRED_DAY, {"affiliated suppliers", ENOUGH, AFFILIATED_ANSWER, {0, 0, 0}, STARRED}}},
+    {{"", PARENTS "4,900\r\n1,900\r\n"},
      {STARRED_DAY, STARRED_DAY, {"affiliated suppliers whose units run", ENOUGH, AFFILIATED_AGAIN, {0, 0, 0}, STARRED}}},
-    {PARENTS, {STARRED_DAY, STARRED_DAY, {"parents without rows", ENOUGH, STARRED_AGAIN, {0, 0, 0}, STARRED}}},
-    {PARENTS "1,2\r\n1,2\r\n", {"3;12:M:1", "3;12:M:1", {"a parent named twice", ENOUGH, "", {35, 5, 2}, STARRED}}},
-    {PARENTS "1,2\r\n2,3\r\n3,2\r\n", {"3;12:M:1", "3;12:M:1", {"a ring", ENOUGH, "", {36, 5, 2}, STARRED}}},
-    {PARENTS "1,1\r\n", {"6;12:M:1", "6;12:M:1", {"a ring before an earlier hour", ENOUGH, "", {36, 5, 1}, STARRED}}},
-    {PARENTS "1,1\r\n", {"24;", "24;", {"an ill-formed day before a ring", ENOUGH, "", {24, 0, 0}, STARRED}}},
+    {{"", PARENTS}, {STARRED_DAY, STARRED_DAY, {"parents without rows", ENOUGH, STARRED_AGAIN, {0, 0, 0}, STARRED}}},
+    {{"", PARENTS "1,2\r\n1,2\r\n"}, {"3;12:M:1", "3;12:M:1", {"a parent named twice", ENOUGH, "", {35, 5, 2}, STARRED}}},
+    {{"", PARENTS "1,2\r\n2,3\r\n3,2\r\n"}, {"3;12:M:1", "3;12:M:1", {"a ring", ENOUGH, "", {36, 5, 2}, STARRED}}},
+    {{"", PARENTS "1,1\r\n"}, {"6;12:M:1", "6;12:M:1", {"a ring before an earlier hour", ENOUGH, "", {36, 5, 1}, STARRED}}},
+    {{"", PARENTS "1,1\r\n"}, {"24;", "24;", {"an ill-formed day before a ring", ENOUGH, "", {24, 0, 0}, STARRED}}},
+    {{CURVE_11, ""}, {"-", STARRED_DAY, {"a curve of unit 11", ENOUGH, CURVE_11_ANSWER, {0, 0, 0}, STARRED}}},
+    {{CURVE_11, ""}, {STARRED_DAY, STARRED_DAY, {"a curve of a unit that runs", ENOUGH, CURVE_11_AGAIN, {0, 0, 0}, STARRED}}},
+    {{CURVES, ""}, {STARRED_DAY, STARRED_DAY, {"curves without rows", ENOUGH, STARRED_AGAIN, {0, 0, 0}, STARRED}}},
+    {{CURVES "11,3,5,100,1\r\n", ""}, {"3;12:M:1", "3;12:M:1", {"a stray point", ENOUGH, "", {32, 4, 1}, STARRED}}},
+    {{CURVES "11,2,5,100,1\r\n11,2,5,100,2\r\n", ""},
+     {"3;12:M:1", "3;12:M:1", {"a point that doesn't rise", ENOUGH, "", {33, 4, 2}, STARRED}}},
+    {{CURVES "11,2,5,99,1\r\n", ""},
+     {"6;12:M:1", "6;12:M:1", {"a low curve before an earlier hour", ENOUGH, "", {34, 4, 1}, STARRED}}},
+    {{CURVES "11,2,5,99,1\r\n", ""}, {"24;", "24;", {"an ill-formed day before a low curve", ENOUGH, "", {24, 0, 0}, STARRED}}},
 };
 
 /* A release: the unit, and the number of the refusal, 0 where it is accepted. */
@@ -142,17 +155,18 @@ static void full_day(uint64_t *day, uint64_t count) {
     day[CAPPING_CELL_COUNT] = count;
 }
 
-/* Studies with a parents file on a copy of the given cells; afterwards they are those, or as they were where it is refused. */
-static void study_with(const char *parents, const uint64_t *given, const uint64_t *after, const struct study *s) {
+/* Studies with what is beside the files on a copy of the given cells; afterwards they are those, or as they were where it is
+ * refused. */
+static void study_with(struct beside beside, const uint64_t *given, const uint64_t *after, const struct study *s) {
     uint64_t *day = copy_of(given, DAY_BYTES);
-    expect_study_with(parents, s, day);
+    expect_study_with(beside, s, day);
     require(s->name, "other cells", memcmp(day, s->report[0] == 0 ? after : given, DAY_BYTES) == 0);
     free(day);
 }
 
-/* The same without parents. */
+/* The same with nothing beside the files. */
 static void study_on(const uint64_t *given, const uint64_t *after, const struct study *s) {
-    study_with("", given, after, s);
+    study_with((struct beside)NONE, given, after, s);
 }
 
 /* Releases from a copy of the given cells; afterwards they are those, or as they were where the release is refused. */
@@ -165,11 +179,11 @@ static void release_from(const uint64_t *given, const uint64_t *after, const str
     free(day);
 }
 
-static void expect_day_study(const char *parents, const struct day_study *d) {
+static void expect_day_study(struct beside beside, const struct day_study *d) {
     uint64_t given[CAPPING_DAY_CELLS], after[CAPPING_DAY_CELLS];
     read_day(given, d->day);
     read_day(after, d->after);
-    study_with(parents, given, after, &d->study);
+    study_with(beside, given, after, &d->study);
 }
 
 static void expect_day_release(const struct day_release *d) {
@@ -250,9 +264,9 @@ static void expect_worked_day(void) {
 
 int main(void) {
     for (size_t i = 0; i < sizeof day_studies / sizeof *day_studies; i++)
-        expect_day_study("", &day_studies[i]);
-    for (size_t i = 0; i < sizeof parents_day_studies / sizeof *parents_day_studies; i++)
-        expect_day_study(parents_day_studies[i].parents, &parents_day_studies[i].day_study);
+        expect_day_study((struct beside)NONE, &day_studies[i]);
+    for (size_t i = 0; i < sizeof day_studies_beside / sizeof *day_studies_beside; i++)
+        expect_day_study(day_studies_beside[i].beside, &day_studies_beside[i].day_study);
     for (size_t i = 0; i < sizeof day_releases / sizeof *day_releases; i++)
         expect_day_release(&day_releases[i]);
     for (size_t i = 0; i < sizeof raw_releases / sizeof *raw_releases; i++)

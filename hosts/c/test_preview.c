@@ -12,11 +12,12 @@
 /* A line of an answer file: five numbers of 20 digits, two letters, the commas, two CR LF and the 0 at the end. */
 #define LINE_ROOM 120
 
-/* The starred rows of the answer, as cells. */
+/* The starred rows of the answer, as cells, and unit 14's where suppliers are affiliated. */
 #define ROW_11 {11, 1, 'F', 0, 2, 'C', 1030000}
 #define ROW_12 {12, 2, 'F', 0, 1, 'M', 330000}
 #define ROW_13 {13, 3, 'F', 0, 1, 'C', 890000}
 #define ROW_14 {14, 4, 'F', 5000000, 1, 'M', 500000}
+#define AFFILIATED_14 {14, 4, 'F', 0, 1, 'M', 500000}
 
 /* The starred supply in another order, with unit 11's in two rows. */
 #define SHUFFLED \
@@ -36,10 +37,10 @@
 #define UNIT_15_IN_SCHEDULES {HOUR_5, STARRED_SUPPLY, STARRED_SCHEDULES "15,1,C,5,1,1,1,1,1\r\n"}
 #define NO_FILES {"", "", ""}
 
-/* A preview: the parents file as its text, the unit, what is stored or else untouched, and what is reported. */
+/* A preview: what is beside the files, the unit, what is stored or else untouched, and what is reported. */
 struct preview {
     const char *name;
-    const char *parents;
+    struct beside beside;
     uint64_t unit;
     uint64_t row[CAPPING_ROW_CELLS];
     uint64_t report[3];
@@ -53,48 +54,55 @@ struct day_preview {
 };
 
 static const struct day_preview accepted[] = {
-    {"-", {"the starred unit 11", "", 11, ROW_11, {0, 0, 0}, STARRED}},
-    {"-", {"the starred unit 12", "", 12, ROW_12, {0, 0, 0}, STARRED}},
-    {"-", {"the starred unit 13", "", 13, ROW_13, {0, 0, 0}, STARRED}},
-    {"-", {"the starred unit 14", "", 14, ROW_14, {0, 0, 0}, STARRED}},
-    {"-", {"unit 11 of shuffled supply", "", 11, ROW_11, {0, 0, 0}, SHUFFLED}},
-    {"-", {"unit 14 of shuffled supply", "", 14, ROW_14, {0, 0, 0}, SHUFFLED}},
-    {"4;3:C:7,9999:M:99", {"units of other files run", "", 12, ROW_12, {0, 0, 0}, STARRED}},
-    {STARRED_DAY, {"unit 11 runs", "", 11, {11, 1, 'F', 0, 2, 'C', 830000}, {0, 0, 0}, STARRED}},
-    {STARRED_DAY, {"unit 13 runs", "", 13, {13, 3, 'F', 0, 1, 'C', 880000}, {0, 0, 0}, STARRED}},
-    {"n;14:M:1", {"unit 14 runs on the market", "", 14, ROW_14, {0, 0, 0}, STARRED}},
-    {"n;14:C:2", {"unit 14 runs on cost", "", 14, {14, 4, 'F', 5000000, 2, 'C', 220000}, {0, 0, 0}, STARRED}},
-    {"5;12:C:2", {"unit 12 runs on cost", "", 12, {12, 2, 'F', 0, 2, 'C', 330000}, {0, 0, 0}, STARRED}},
-    {"5;12:C:2", {"another unit runs on cost", "", 14, ROW_14, {0, 0, 0}, STARRED}},
-    {"-", {"unit 14 with affiliated suppliers", PARENTS "1,2\r\n", 14, {14, 4, 'F', 0, 1, 'M', 500000}, {0, 0, 0}, STARRED}},
-    {"-", {"unit 11 with affiliated suppliers", PARENTS "1,2\r\n", 11, ROW_11, {0, 0, 0}, STARRED}},
-    {"-", {"the supplier as it is filed", PARENTS "4,900\r\n1,900\r\n", 14, {14, 4, 'F', 0, 1, 'M', 500000}, {0, 0, 0}, STARRED}},
-    {"-", {"unit 14 passes", "", 14, {14, 4, 'P', 5000000, 1, 'M', 500000}, {0, 0, 0}, RELIEF_499}},
-    {"-", {"unit 14 can't be tested", "", 14, {14, 4, 'U', 0, 1, 'M', 500000}, {0, 0, 0}, RELIEF_1501}},
-    {"-", {"unit 11 can't be tested", "", 11, {11, 1, 'U', 0, 2, 'C', 1030000}, {0, 0, 0}, RELIEF_1501}},
-    {"23;", {"the largest fields", "", 9999, {9999, 999, 'U', 0, 99, 'C', 22000000000}, {0, 0, 0}, LARGEST}},
+    {"-", {"the starred unit 11", NONE, 11, ROW_11, {0, 0, 0}, STARRED}},
+    {"-", {"the starred unit 12", NONE, 12, ROW_12, {0, 0, 0}, STARRED}},
+    {"-", {"the starred unit 13", NONE, 13, ROW_13, {0, 0, 0}, STARRED}},
+    {"-", {"the starred unit 14", NONE, 14, ROW_14, {0, 0, 0}, STARRED}},
+    {"-", {"unit 11 of shuffled supply", NONE, 11, ROW_11, {0, 0, 0}, SHUFFLED}},
+    {"-", {"unit 14 of shuffled supply", NONE, 14, ROW_14, {0, 0, 0}, SHUFFLED}},
+    {"4;3:C:7,9999:M:99", {"units of other files run", NONE, 12, ROW_12, {0, 0, 0}, STARRED}},
+    {STARRED_DAY, {"unit 11 runs", NONE, 11, {11, 1, 'F', 0, 2, 'C', 830000}, {0, 0, 0}, STARRED}},
+    {STARRED_DAY, {"unit 13 runs", NONE, 13, {13, 3, 'F', 0, 1, 'C', 880000}, {0, 0, 0}, STARRED}},
+    {"n;14:M:1", {"unit 14 runs on the market", NONE, 14, ROW_14, {0, 0, 0}, STARRED}},
+    {"n;14:C:2", {"unit 14 runs on cost", NONE, 14, {14, 4, 'F', 5000000, 2, 'C', 220000}, {0, 0, 0}, STARRED}},
+    {"5;12:C:2", {"unit 12 runs on cost", NONE, 12, {12, 2, 'F', 0, 2, 'C', 330000}, {0, 0, 0}, STARRED}},
+    {"5;12:C:2", {"another unit runs on cost", NONE, 14, ROW_14, {0, 0, 0}, STARRED}},
+    {"-", {"unit 14 with affiliated suppliers", {"", PARENTS "1,2\r\n"}, 14, AFFILIATED_14, {0, 0, 0}, STARRED}},
+    {"-", {"unit 11 with affiliated suppliers", {"", PARENTS "1,2\r\n"}, 11, ROW_11, {0, 0, 0}, STARRED}},
+    {"-", {"the supplier as it is filed", {"", PARENTS "4,900\r\n1,900\r\n"}, 14, AFFILIATED_14, {0, 0, 0}, STARRED}},
+    {"-", {"unit 11 with a curve", {CURVE_11, ""}, 11, {11, 1, 'F', 0, 2, 'C', 920000}, {0, 0, 0}, STARRED}},
+    {"-", {"another unit than the curve's", {CURVE_11, ""}, 14, ROW_14, {0, 0, 0}, STARRED}},
+    {STARRED_DAY, {"unit 11 runs, with a curve", {CURVE_11, ""}, 11, {11, 1, 'F', 0, 2, 'C', 720000}, {0, 0, 0}, STARRED}},
+    {"-", {"a curve and affiliated suppliers", {CURVE_11, PARENTS "1,2\r\n"}, 14, AFFILIATED_14, {0, 0, 0}, STARRED}},
+    {"-", {"unit 14 passes", NONE, 14, {14, 4, 'P', 5000000, 1, 'M', 500000}, {0, 0, 0}, RELIEF_499}},
+    {"-", {"unit 14 can't be tested", NONE, 14, {14, 4, 'U', 0, 1, 'M', 500000}, {0, 0, 0}, RELIEF_1501}},
+    {"-", {"unit 11 can't be tested", NONE, 11, {11, 1, 'U', 0, 2, 'C', 1030000}, {0, 0, 0}, RELIEF_1501}},
+    {"23;", {"the largest fields", NONE, 9999, {9999, 999, 'U', 0, 99, 'C', 22000000000}, {0, 0, 0}, LARGEST}},
 };
 
 static const struct day_preview refused[] = {
-    {"-", {"unit 15", "", 15, UNTOUCHED_ROW, {31, 0, 0}, STARRED}},
-    {"-", {"unit 10", "", 10, UNTOUCHED_ROW, {31, 0, 0}, STARRED}},
-    {"-", {"unit 0", "", 0, UNTOUCHED_ROW, {31, 0, 0}, STARRED}},
-    {"-", {"the largest number", "", UINT64_MAX, UNTOUCHED_ROW, {31, 0, 0}, STARRED}},
-    {"-", {"a unit in the lowest bits", "", (UINT64_C(1) << 32) + 14, UNTOUCHED_ROW, {31, 0, 0}, STARRED}},
-    {"5;3:C:7,14:M:1", {"a unit that only runs", "", 3, UNTOUCHED_ROW, {31, 0, 0}, STARRED}},
-    {STARRED_DAY, {"no units in supply", "", 11, UNTOUCHED_ROW, {31, 0, 0}, NO_UNITS}},
-    {"6;", {"an earlier hour", "", 14, UNTOUCHED_ROW, {20, 0, 0}, STARRED}},
-    {"6;", {"an earlier hour before unit 15", "", 15, UNTOUCHED_ROW, {20, 0, 0}, STARRED}},
-    {"5;14:C:2", {"unit 14 on cost, looking at 11", "", 11, UNTOUCHED_ROW, {21, 3, 14}, NO_14_ON_COST}},
-    {"5;14:C:2", {"unit 14 on cost, looking at 14", "", 14, UNTOUCHED_ROW, {21, 3, 14}, NO_14_ON_COST}},
-    {"5;14:C:2", {"unit 14 on cost, looking at 15", "", 15, UNTOUCHED_ROW, {21, 3, 14}, NO_14_ON_COST}},
-    {"24;", {"hour 24 of the day", "", 14, UNTOUCHED_ROW, {24, 0, 0}, STARRED}},
-    {"5;12:M:1,11:M:1", {"units that don't rise before unit 15", "", 15, UNTOUCHED_ROW, {24, 0, 0}, STARRED}},
-    {"5;14:M:100", {"schedule 100 before an empty constraint", "", 15, UNTOUCHED_ROW, {24, 0, 0}, NO_FILES}},
-    {"5;14:M:1", {"an empty constraint", "", 14, UNTOUCHED_ROW, {2, 1, 0}, NO_FILES}},
-    {"6;", {"a schedule of unit 15", "", 15, UNTOUCHED_ROW, {7, 3, 8}, UNIT_15_IN_SCHEDULES}},
-    {"6;", {"a parent named twice", PARENTS "1,2\r\n1,2\r\n", 15, UNTOUCHED_ROW, {35, 5, 2}, STARRED}},
-    {"6;", {"a ring", PARENTS "1,2\r\n2,3\r\n3,2\r\n", 15, UNTOUCHED_ROW, {36, 5, 2}, STARRED}},
+    {"-", {"unit 15", NONE, 15, UNTOUCHED_ROW, {31, 0, 0}, STARRED}},
+    {"-", {"unit 10", NONE, 10, UNTOUCHED_ROW, {31, 0, 0}, STARRED}},
+    {"-", {"unit 0", NONE, 0, UNTOUCHED_ROW, {31, 0, 0}, STARRED}},
+    {"-", {"the largest number", NONE, UINT64_MAX, UNTOUCHED_ROW, {31, 0, 0}, STARRED}},
+    {"-", {"a unit in the lowest bits", NONE, (UINT64_C(1) << 32) + 14, UNTOUCHED_ROW, {31, 0, 0}, STARRED}},
+    {"5;3:C:7,14:M:1", {"a unit that only runs", NONE, 3, UNTOUCHED_ROW, {31, 0, 0}, STARRED}},
+    {STARRED_DAY, {"no units in supply", NONE, 11, UNTOUCHED_ROW, {31, 0, 0}, NO_UNITS}},
+    {"6;", {"an earlier hour", NONE, 14, UNTOUCHED_ROW, {20, 0, 0}, STARRED}},
+    {"6;", {"an earlier hour before unit 15", NONE, 15, UNTOUCHED_ROW, {20, 0, 0}, STARRED}},
+    {"5;14:C:2", {"unit 14 on cost, looking at 11", NONE, 11, UNTOUCHED_ROW, {21, 3, 14}, NO_14_ON_COST}},
+    {"5;14:C:2", {"unit 14 on cost, looking at 14", NONE, 14, UNTOUCHED_ROW, {21, 3, 14}, NO_14_ON_COST}},
+    {"5;14:C:2", {"unit 14 on cost, looking at 15", NONE, 15, UNTOUCHED_ROW, {21, 3, 14}, NO_14_ON_COST}},
+    {"24;", {"hour 24 of the day", NONE, 14, UNTOUCHED_ROW, {24, 0, 0}, STARRED}},
+    {"5;12:M:1,11:M:1", {"units that don't rise before unit 15", NONE, 15, UNTOUCHED_ROW, {24, 0, 0}, STARRED}},
+    {"5;14:M:100", {"schedule 100 before an empty constraint", NONE, 15, UNTOUCHED_ROW, {24, 0, 0}, NO_FILES}},
+    {"5;14:M:1", {"an empty constraint", NONE, 14, UNTOUCHED_ROW, {2, 1, 0}, NO_FILES}},
+    {"6;", {"a schedule of unit 15", NONE, 15, UNTOUCHED_ROW, {7, 3, 8}, UNIT_15_IN_SCHEDULES}},
+    {"6;", {"a stray point", {CURVES "11,3,5,100,1\r\n", ""}, 15, UNTOUCHED_ROW, {32, 4, 1}, STARRED}},
+    {"6;", {"a point twice", {CURVE_11 "11,2,5,100,2000\r\n", ""}, 15, UNTOUCHED_ROW, {33, 4, 3}, STARRED}},
+    {"6;", {"a low curve of another unit", {CURVES "11,2,5,99,1\r\n", ""}, 14, UNTOUCHED_ROW, {34, 4, 1}, STARRED}},
+    {"6;", {"a parent named twice", {"", PARENTS "1,2\r\n1,2\r\n"}, 15, UNTOUCHED_ROW, {35, 5, 2}, STARRED}},
+    {"6;", {"a ring", {"", PARENTS "1,2\r\n2,3\r\n3,2\r\n"}, 15, UNTOUCHED_ROW, {36, 5, 2}, STARRED}},
 };
 
 /* A preview on cells that no words are, or that words can't tell from others. */
@@ -104,17 +112,17 @@ struct raw_preview {
 };
 
 static const struct raw_preview raw_previews[] = {
-    {{1, 5, 1, 14, 'c', 2}, {"kind c before unit 15", "", 15, UNTOUCHED_ROW, {24, 0, 0}, STARRED}},
-    {{1, 5, 1, 14, 256 + 'C', 2}, {"a kind that is a letter in its lowest byte", "", 14, UNTOUCHED_ROW, {24, 0, 0}, STARRED}},
-    {{1, 5, 2, 14, 'C', 2}, {"a place that is counted with zeros", "", 15, UNTOUCHED_ROW, {24, 0, 0}, STARRED}},
-    {{1, 5, 65, 14, 'C', 2}, {"a count of 65 before unit 15", "", 15, UNTOUCHED_ROW, {24, 0, 0}, STARRED}},
-    {{1, 5, UINT64_MAX, 14, 'C', 2}, {"the largest count", "", 14, UNTOUCHED_ROW, {24, 0, 0}, STARRED}},
-    {{1, UINT64_MAX}, {"the largest hour", "", 14, UNTOUCHED_ROW, {24, 0, 0}, STARRED}},
+    {{1, 5, 1, 14, 'c', 2}, {"kind c before unit 15", NONE, 15, UNTOUCHED_ROW, {24, 0, 0}, STARRED}},
+    {{1, 5, 1, 14, 256 + 'C', 2}, {"a kind that is a letter in its lowest byte", NONE, 14, UNTOUCHED_ROW, {24, 0, 0}, STARRED}},
+    {{1, 5, 2, 14, 'C', 2}, {"a place that is counted with zeros", NONE, 15, UNTOUCHED_ROW, {24, 0, 0}, STARRED}},
+    {{1, 5, 65, 14, 'C', 2}, {"a count of 65 before unit 15", NONE, 15, UNTOUCHED_ROW, {24, 0, 0}, STARRED}},
+    {{1, 5, UINT64_MAX, 14, 'C', 2}, {"the largest count", NONE, 14, UNTOUCHED_ROW, {24, 0, 0}, STARRED}},
+    {{1, UINT64_MAX}, {"the largest hour", NONE, 14, UNTOUCHED_ROW, {24, 0, 0}, STARRED}},
 };
 
 /* Looks at one unit on a copy of the given cells. */
 static void preview_on(const uint64_t *given, const struct preview *p) {
-    struct lent files = lend_with(p->parents, &p->files);
+    struct lent files = lend_with(p->beside, &p->files);
     uint64_t *day = copy_of(given, DAY_BYTES), *row = untouched(ROW_BYTES), *report = untouched(REPORT_BYTES);
     require(p->name, "another answer", capping_preview(day, LENT_ALL(files), p->unit, row, report) == p->report[0]);
     require(p->name, "another row", memcmp(row, p->row, ROW_BYTES) == 0);
@@ -137,7 +145,7 @@ static void write_line(char line[LINE_ROOM], const uint64_t *row) {
  * refusal. Where that is 31 it is accepted, and writes no such row. */
 static void study_on(const uint64_t *given, const struct preview *p) {
     static const uint64_t nothing[3] = {0, 0, 0};
-    struct lent files = lend_with(p->parents, &p->files);
+    struct lent files = lend_with(p->beside, &p->files);
     uint64_t *day = copy_of(given, DAY_BYTES), report[3];
     char answer[CAPPING_LONGEST_ANSWER + 1], line[LINE_ROOM];
     uint64_t count = capping_day_study(day, LENT_ALL(files), (uint8_t *)answer, CAPPING_LONGEST_ANSWER, report);
@@ -174,10 +182,10 @@ static void expect_day_preview(const struct day_preview *d) {
 
 /* 22 and its edge, with units that the starred files don't have. */
 static void expect_crowds(void) {
-    static const struct preview last = {"a 64th unit", "", 11, ROW_11, {0, 0, 0}, STARRED};
-    static const struct preview last_unknown = {"a 64th unit, looking at 15", "", 15, UNTOUCHED_ROW, {31, 0, 0}, STARRED};
-    static const struct preview one_more = {"a 65th unit", "", 11, UNTOUCHED_ROW, {22, 0, 0}, STARRED};
-    static const struct preview one_more_unknown = {"a 65th unit, looking at 15", "", 15, UNTOUCHED_ROW, {22, 0, 0}, STARRED};
+    static const struct preview last = {"a 64th unit", NONE, 11, ROW_11, {0, 0, 0}, STARRED};
+    static const struct preview last_unknown = {"a 64th unit, looking at 15", NONE, 15, UNTOUCHED_ROW, {31, 0, 0}, STARRED};
+    static const struct preview one_more = {"a 65th unit", NONE, 11, UNTOUCHED_ROW, {22, 0, 0}, STARRED};
+    static const struct preview one_more_unknown = {"a 65th unit, looking at 15", NONE, 15, UNTOUCHED_ROW, {22, 0, 0}, STARRED};
     uint64_t given[CAPPING_DAY_CELLS];
     capping_day_fresh(given);
     for (uint64_t unit = 101; unit <= 160; unit++)
@@ -203,9 +211,9 @@ static const char *schedules_of(unsigned units) {
 static void expect_most_units(void) {
     uint64_t given[CAPPING_DAY_CELLS];
     struct files most = {HOUR_5, supply_of(64, 64, 32), schedules_of(64)};
-    struct preview first = {"the first of 64 units", "", 1, {1, 1, 'P', 290000000, 1, 'C', 1030000}, {0, 0, 0}, most};
-    struct preview last = {"the last of 64 units", "", 64, {64, 32, 'P', 290000000, 1, 'C', 1030000}, {0, 0, 0}, most};
-    struct preview none = {"none of 64 units", "", 65, UNTOUCHED_ROW, {31, 0, 0}, most};
+    struct preview first = {"the first of 64 units", NONE, 1, {1, 1, 'P', 290000000, 1, 'C', 1030000}, {0, 0, 0}, most};
+    struct preview last = {"the last of 64 units", NONE, 64, {64, 32, 'P', 290000000, 1, 'C', 1030000}, {0, 0, 0}, most};
+    struct preview none = {"none of 64 units", NONE, 65, UNTOUCHED_ROW, {31, 0, 0}, most};
     capping_day_fresh(given);
     expect_preview(given, &first);
     expect_preview(given, &last);

@@ -7,8 +7,8 @@
 #define THREADS 4
 #define ROUNDS 500
 
-/* What capping.h says of a call, and some for the thread itself. */
-#define CALL_STACK (136 * 1024)
+/* What capping.h says of a call with curves, and some for the thread itself. */
+#define CALL_STACK (304 * 1024)
 #define OWN_STACK (16 * 1024)
 
 /* A thread with a day of its own, on which a unit runs that the others don't have. */
@@ -21,8 +21,12 @@ struct worker {
 /* Held until every thread is there, so that they begin together. */
 static pthread_mutex_t start = PTHREAD_MUTEX_INITIALIZER;
 
-/* The longest chain of parents, which takes the most stack; written before the threads begin. */
+/* The longest chain of parents; written before the threads begin. */
 static char chain[CHAIN_ROOM];
+
+/* The starred answer with this chain and with the curve of unit 11. */
+#define BESIDE_ANSWER \
+    ANSWER_HEADER "11,1,F,0,2,C,920000\r\n12,2,F,0,1,M,330000\r\n13,3,F,0,1,C,890000\r\n14,4,F,0,1,M,500000\r\n"
 
 /* The day that all threads preview on; made before they begin. */
 static uint64_t shared_day[CAPPING_DAY_CELLS];
@@ -52,12 +56,12 @@ static int preview_once(struct lent files) {
 static int work_once(uint64_t unit, struct lent files) {
     uint64_t day[CAPPING_DAY_CELLS], studied[CAPPING_DAY_CELLS], report[3];
     uint8_t answer[CAPPING_LONGEST_ANSWER];
-    size_t length = sizeof AFFILIATED_ANSWER - 1;
+    size_t length = sizeof BESIDE_ANSWER - 1;
     int wrong = 0;
     capping_day_fresh(day);
     capping_day_add(day, unit, 'M', 1);
     wrong += capping_day_study(day, LENT_ALL(files), answer, sizeof answer, report) != length;
-    wrong += memcmp(answer, AFFILIATED_ANSWER, length) != 0;
+    wrong += memcmp(answer, BESIDE_ANSWER, length) != 0;
     wrong += !capping_day_read(studied, STARRED_DAY);
     wrong += capping_day_release(day, unit + 1, report) != 23;
     wrong += capping_day_equal(day, studied);
@@ -69,7 +73,7 @@ static int work_once(uint64_t unit, struct lent files) {
 static void *work(void *given) {
     struct worker *w = given;
     const struct files texts = STARRED;
-    struct lent files = lend_with(chain, &texts);
+    struct lent files = lend_with((struct beside){CURVE_11, chain}, &texts);
     pthread_mutex_lock(&start);
     pthread_mutex_unlock(&start);
     for (int round = 0; round < ROUNDS; round++)

@@ -61,7 +61,7 @@ static const struct tidying refused[] = {
     {"a second M schedule of a unit in no supply", CAPPING_SCHEDULES, ENOUGH_TIDY,
      SCATTERED_SCHEDULES "7,3,M,0,1,2,3,4,1\r\n", "", {6, 3, 4}},
     {"file 0", 0, ENOUGH_TIDY, HOUR_5, "", {2, 0, 0}},
-    {"file 4", 4, ENOUGH_TIDY, HOUR_5, "", {2, 0, 0}},
+    {"file 4, curves", 4, ENOUGH_TIDY, CURVE_11, "", {2, 0, 0}},
     {"file 5, parents", 5, ENOUGH_TIDY, PARENTS "1,2\r\n", "", {2, 0, 0}},
     {"the file with the highest number", UINT64_MAX, ENOUGH_TIDY, "\t", "", {2, 0, 0}},
 };

@@ -12,6 +12,7 @@
 #define CONSTRAINT "hour,relief,cutoff\r\n"
 #define SUPPLY "unit,supplier,mw,cost,dfax\r\n"
 #define SCHEDULES "unit,schedule,kind,hour,ecomin,price,noload,startup,minrun\r\n"
+#define CURVES "unit,schedule,hour,mw,price\r\n"
 #define PARENTS "supplier,parent\r\n"
 #define ANSWER_HEADER "unit,supplier,verdict,left,schedule,kind,cost\r\n"
 #define HOUR_5 CONSTRAINT "5,1000,300\r\n"
@@ -31,6 +32,15 @@
  * nothing is left for it either. */
 #define AFFILIATED_ANSWER \
     ANSWER_HEADER "11,1,F,0,2,C,1030000\r\n12,2,F,0,1,M,330000\r\n13,3,F,0,1,C,890000\r\n14,4,F,0,1,M,500000\r\n"
+
+/* Its answer with another row of unit 11. */
+#define ANSWER_WITH_11(row) \
+    ANSWER_HEADER row "\r\n12,2,F,0,1,M,330000\r\n13,3,F,0,1,C,890000\r\n14,4,F,5000000,1,M,500000\r\n"
+
+/* A curve of unit 11's C schedule, and the answer then: the first point at or above ecomin, 100, is the second, so the price is
+ * 2000 and capped 2200, and the cost 100 * 2200 + 10 * 50000 + 10 * 20000. */
+#define CURVE_11 CURVES "11,2,5,50,1000\r\n11,2,5,100,2000\r\n"
+#define CURVE_11_ANSWER ANSWER_WITH_11("11,1,F,0,2,C,920000")
 
 /* The most parents that a study may have, and room for the text of one more. */
 #define MOST_PARENTS 64
@@ -52,12 +62,20 @@ static inline const char *supply_of(unsigned rows, unsigned units, unsigned supp
     return text;
 }
 
-/* The files of a study but for parents, as their texts. */
+/* The files of a study but for curves and parents, as their texts. */
 struct files {
     const char *constraint;
     const char *supply;
     const char *schedules;
 };
+
+/* What a study may have beside them, as texts; one of no bytes is none. */
+struct beside {
+    const char *curves;
+    const char *parents;
+};
+
+#define NONE {"", ""}
 
 #define STARRED {HOUR_5, STARRED_SUPPLY, STARRED_SCHEDULES}
 #define NO_UNITS {HOUR_5, SUPPLY, SCHEDULES}
@@ -72,6 +90,12 @@ struct study {
     const char *answer;
     uint64_t report[3];
     struct files files;
+};
+
+/* A study with what is beside its files. */
+struct study_beside {
+    struct beside beside;
+    struct study study;
 };
 
 #define DAY_BYTES (CAPPING_DAY_CELLS * sizeof(uint64_t))
@@ -110,32 +134,40 @@ static inline void read_day(uint64_t *day, const char *words) {
 
 /* Files as a call takes them: the first three as a check does, all as a study does. */
 struct lent {
-    uint8_t *constraint, *supply, *schedules, *parents;
-    size_t constraint_len, supply_len, schedules_len, parents_len;
+    uint8_t *constraint, *supply, *schedules, *curves, *parents;
+    size_t constraint_len, supply_len, schedules_len, curves_len, parents_len;
 };
 
 #define LENT(l) (l).constraint, (l).constraint_len, (l).supply, (l).supply_len, (l).schedules, (l).schedules_len
-#define LENT_ALL(l) LENT(l), (l).parents, (l).parents_len
+#define LENT_ALL(l) LENT(l), (l).curves, (l).curves_len, (l).parents, (l).parents_len
 
-/* Files with a parents file, as its text. */
-static inline struct lent lend_with(const char *parents, const struct files *f) {
-    struct lent l = {NULL, NULL, NULL, NULL, strlen(f->constraint), strlen(f->supply), strlen(f->schedules), strlen(parents)};
-    l.constraint = copy_of(f->constraint, l.constraint_len);
-    l.supply = copy_of(f->supply, l.supply_len);
-    l.schedules = copy_of(f->schedules, l.schedules_len);
-    l.parents = copy_of(parents, l.parents_len);
+/* A text as a file, with its length. */
+static inline uint8_t *lend_text(const char *text, size_t *length) {
+    *length = strlen(text);
+    return copy_of(text, *length);
+}
+
+/* Files with what is beside them. */
+static inline struct lent lend_with(struct beside beside, const struct files *f) {
+    struct lent l;
+    l.constraint = lend_text(f->constraint, &l.constraint_len);
+    l.supply = lend_text(f->supply, &l.supply_len);
+    l.schedules = lend_text(f->schedules, &l.schedules_len);
+    l.curves = lend_text(beside.curves, &l.curves_len);
+    l.parents = lend_text(beside.parents, &l.parents_len);
     return l;
 }
 
-/* Files without parents. */
+/* Files with nothing beside them. */
 static inline struct lent lend(const struct files *f) {
-    return lend_with("", f);
+    return lend_with((struct beside)NONE, f);
 }
 
 static inline void take_back(struct lent l) {
     free(l.constraint);
     free(l.supply);
     free(l.schedules);
+    free(l.curves);
     free(l.parents);
 }
 
@@ -167,18 +199,18 @@ static inline void expect_written(const char *name, struct room r, uint64_t coun
     free(r.buffer);
 }
 
-/* Studies with a parents file, as its text, on the day, or on a fresh one where that is NULL. */
-static inline void expect_study_with(const char *parents, const struct study *s, uint64_t *day) {
-    struct lent files = lend_with(parents, &s->files);
+/* Studies with what is beside the files on the day, or on a fresh one where that is NULL. */
+static inline void expect_study_with(struct beside beside, const struct study *s, uint64_t *day) {
+    struct lent files = lend_with(beside, &s->files);
     struct room room = lend_room(s->room);
     uint64_t count = day == NULL ? capping_study(LENT_ALL(files), ROOM(room)) : capping_day_study(day, LENT_ALL(files), ROOM(room));
     expect_written(s->name, room, count, s->answer, s->report);
     take_back(files);
 }
 
-/* Studies without parents. */
+/* Studies with nothing beside the files. */
 static inline void expect_study(const struct study *s, uint64_t *day) {
-    expect_study_with("", s, day);
+    expect_study_with((struct beside)NONE, s, day);
 }
 
 #endif

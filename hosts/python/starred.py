@@ -6,6 +6,7 @@ import capping
 CONSTRAINT = b"hour,relief,cutoff\r\n"
 SUPPLY = b"unit,supplier,mw,cost,dfax\r\n"
 SCHEDULES = b"unit,schedule,kind,hour,ecomin,price,noload,startup,minrun\r\n"
+CURVES = b"unit,schedule,hour,mw,price\r\n"
 PARENTS = b"supplier,parent\r\n"
 ANSWER = b"unit,supplier,verdict,left,schedule,kind,cost\r\n"
 HOUR_5 = CONSTRAINT + b"5,1000,300\r\n"
@@ -23,6 +24,11 @@ STARRED_ANSWER = ANSWER + b"11,1,F,0,2,C,1030000\r\n12,2,F,0,1,M,330000\r\n13,3,
 
 # The same where any two of its suppliers are affiliated: unit 14's own group and two others are then all that supply.
 AFFILIATED_ANSWER = STARRED_ANSWER.replace(b"14,4,F,5000000,", b"14,4,F,0,")
+
+# A curve of unit 11's C schedule, and the answer with it: the first point at or above ecomin, 100, is the second, so the price is
+# 2000 and capped 2200, and the cost 100 * 2200 + 10 * 50000 + 10 * 20000.
+CURVE_11 = CURVES + b"11,2,5,50,1000\r\n11,2,5,100,2000\r\n"
+CURVE_11_ANSWER = STARRED_ANSWER.replace(b"2,C,1030000", b"2,C,920000")
 
 # The starred study again, with its units running: no startup is paid, and only the hour itself.
 AGAIN_ANSWER = ANSWER + b"11,1,F,0,2,C,830000\r\n12,2,F,0,1,M,330000\r\n13,3,F,0,1,C,880000\r\n14,4,F,5000000,1,M,500000\r\n"

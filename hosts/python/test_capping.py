@@ -6,7 +6,7 @@ import unittest.mock
 import capping
 from capping import engine
 from starred import AFFILIATED_ANSWER, CONSTRAINT, HOUR_5, PARENTS, SCHEDULES, STARRED, STARRED_ANSWER, STARRED_BY_NAME
-from starred import STARRED_SCHEDULES, STARRED_SUPPLY, SUPPLY, Case, quoted
+from starred import CURVE_11, CURVE_11_ANSWER, CURVES, STARRED_SCHEDULES, STARRED_SUPPLY, SUPPLY, Case, quoted
 
 MOST_AMOUNT = 10**12
 
@@ -97,6 +97,97 @@ class Parents(Case):
             capping.study(*STARRED, capping.LONGEST_ANSWER, PARENTS)
 
 
+class Curves(Case):
+    def answered(self, points):
+        return capping.study(*STARRED, curves=CURVES + points)
+
+    def told(self, number, place, points, files=STARRED):
+        return self.refused(number, 4, place, capping.study, *files, curves=CURVES + points)
+
+    def at_ecomin(self, ecomin):
+        """The starred files with another ecomin of unit 11's C schedule."""
+        return (HOUR_5, STARRED_SUPPLY, STARRED_SCHEDULES.replace(b"11,2,C,5,100,", b"11,2,C,5,%d," % ecomin))
+
+    def rising(self, count):
+        """Points of unit 11's C schedule, up to ecomin at the tenth."""
+        return b"".join(b"11,2,5,%d,%d\r\n" % (10 * nth, 200 * nth) for nth in range(1, count + 1))
+
+    def test_none(self):
+        self.assertEqual(capping.study(*STARRED, curves=b""), STARRED_ANSWER)
+        self.assertEqual(self.answered(b""), STARRED_ANSWER)
+
+    def test_price_at_ecomin(self):
+        self.assertEqual(capping.study(*STARRED, curves=memoryview(CURVE_11)), CURVE_11_ANSWER)
+        for points in (
+            b"11,2,5,100,2000",
+            b"11,2,5,99,1000\r\n11,2,5,101,2000\r\n",
+            b"11,2,5,100,2000\r\n11,2,5,200,9000\r\n",
+            b'11,2,5,0,0\r\n"11",2,5,100,"2000"\r\n',
+            self.rising(10),
+        ):
+            self.assertEqual(self.answered(points), CURVE_11_ANSWER)
+        for ecomin, cost in ((0, 700000), (50, 755000), (51, 812200)):
+            answer = STARRED_ANSWER.replace(b"1030000", b"%d" % cost)
+            self.assertEqual(capping.study(*self.at_ecomin(ecomin), curves=CURVE_11), answer)
+
+    def test_in_place_of_the_column(self):
+        for point, row in ((b"11,2,5,100,9000", b"11,1,F,0,1,M,1100000"), (b"11,1,5,100,2000", b"11,1,F,0,1,M,900000")):
+            self.assertEqual(self.answered(point), STARRED_ANSWER.replace(b"11,1,F,0,2,C,1030000", row))
+
+    def test_interleaved(self):
+        points = b"11,2,5,50,1000\r\n14,1,5,10,4000\r\n11,2,5,100,2000\r\n14,1,5,100,6000\r\n"
+        self.assertEqual(self.answered(points), CURVE_11_ANSWER.replace(b"1,M,500000", b"1,M,600000"))
+
+    def test_beside_parents(self):
+        answer = CURVE_11_ANSWER.replace(b"14,4,F,5000000,", b"14,4,F,0,")
+        self.assertEqual(capping.study(*STARRED, curves=CURVE_11, parents=PARENTS + b"1,2"), answer)
+        self.refused(36, 5, 1, capping.study, *STARRED, curves=CURVE_11, parents=PARENTS + b"1,1")
+
+    def test_room(self):
+        room = len(CURVE_11_ANSWER)
+        self.assertEqual(capping.study(*STARRED, room, curves=CURVE_11), CURVE_11_ANSWER)
+        self.refused(10, 0, 0, capping.study, *STARRED, room - 1, curves=CURVE_11)
+
+    def test_refused_file(self):
+        self.assertEqual(self.told(1, 0, b"11,2,5,100,2000\n"), "refusal 1: the file isn't CSV by RFC 4180 (curves)")
+        self.refused(2, 4, 0, capping.study, *STARRED, curves=b"\r\n")
+        self.told(2, 2, b"11,2,5,100,2000\r\n11,2,5,200\r\n")
+        self.told(3, 1, b"11,2,5,100001,2000\r\n")
+        self.told(4, 0, self.rising(4097))
+
+    def test_no_row(self):
+        words = "refusal 32: a point of a curve has no row in schedules (curves, record 1)"
+        for point in (b"15,1,5,100,1", b"11,3,5,100,1", b"11,2,6,100,1"):
+            self.assertEqual(self.told(32, 1, point), words)
+        self.told(32, 3, b"11,2,5,50,1\r\n11,2,5,50,1\r\n11,2,6,1,1\r\n")
+
+    def test_no_rise(self):
+        words = "refusal 33: a curve doesn't rise from point to point, or has more than ten (curves, record 2)"
+        for points in (b"11,2,5,100,1\r\n11,2,5,100,2", b"11,2,5,50,2\r\n11,2,5,100,2", b"11,2,5,50,2\r\n11,2,5,100,1"):
+            self.assertEqual(self.told(33, 2, points), words)
+        self.told(33, 3, b"11,2,5,50,1\r\n12,2,5,9,9\r\n11,2,5,50,2\r\n")
+        self.told(33, 11, self.rising(11))
+
+    def test_ends_low(self):
+        words = "refusal 34: a curve ends below ecomin (curves, record 2)"
+        self.assertEqual(self.told(34, 2, b"11,2,5,50,1\r\n11,2,5,99,2\r\n"), words)
+        self.told(34, 2, b"11,2,5,9,1\r\n12,2,5,9,1\r\n11,2,5,10,2\r\n")
+        self.refused(34, 4, 2, capping.study, *self.at_ecomin(101), curves=CURVE_11)
+
+    def test_order_of_files(self):
+        low = b"11,2,5,99,1\r\n"
+        stray_unit = (HOUR_5, STARRED_SUPPLY, STARRED_SCHEDULES + b"15,1,C,5,1,1,1,1,1\r\n")
+        self.refused(7, 3, 8, capping.study, *stray_unit, curves=b"\t")
+        self.refused(34, 4, 1, capping.study, *STARRED, curves=CURVES + low, parents=b"\t")
+        one_unit = (HOUR_5, STARRED_SUPPLY, SCHEDULES + b"11,2,C,5,100,3000,50000,20000,1\r\n")
+        self.told(34, 1, low, one_unit)
+        self.refused(8, 3, 12, capping.study, *one_unit, curves=CURVE_11)
+
+    def test_by_name_alone(self):
+        with self.assertRaises(TypeError):
+            capping.study(*STARRED, capping.LONGEST_ANSWER, CURVES)
+
+
 class Tidy(Case):
     def told(self, refusal, file, data):
         """Requires this number, file and place, whether or not the room is enough."""
@@ -147,7 +238,7 @@ class Tidy(Case):
         self.told((6, 3, 8), "schedules", STARRED_SCHEDULES + b"14,3,M,5,0,0,0,0,1\r\n")
 
     def test_no_such_file(self):
-        for file in ("parents", "supply.csv", 2):
+        for file in ("curves", "parents", "supply.csv", 2):
             with self.assertRaisesRegex(ValueError, "none of the files that can be tidied: constraint, supply, schedules$"):
                 capping.tidy(file, SUPPLY)
 
@@ -175,7 +266,7 @@ class Test(Case):
 
 class Words(unittest.TestCase):
     def test_every_number(self):
-        for number in (*range(1, 12), *range(20, 25), 30, 31, 35, 36):
+        for number in (*range(1, 12), *range(20, 25), *range(30, 37)):
             self.assertIn(f"refusal {number}: ", str(capping.Refused(number)))
 
     def test_pickled(self):

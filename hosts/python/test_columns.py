@@ -7,10 +7,10 @@ from capping import columns
 from capping.explain import explained
 from capping.records import NotCsv, records
 from capping.refusal import FILE_NUMBERS
-from starred import PARENTS, STARRED
+from starred import CURVES, PARENTS, STARRED
 
 FIELD_REFUSED = 3
-SOUND = dict(zip(columns.FILES, (*STARRED, PARENTS + b"1,2\r\n")))
+SOUND = dict(zip(columns.FILES, (*STARRED, CURVES + b"11,2,5,100,2000\r\n", PARENTS + b"1,2\r\n")))
 FIELDS = (b"", b"0", b"1", b"-1", b"-0", b"-01", b"+1", b"01", b" 1", b"1.0", b"9" * 5000, b"M", b"C", b"m", b"MC", b"X")
 COLUMNS = [(file, at, column) for file, table in columns.FILES.items() for at, column in enumerate(table.columns)]
 

@@ -7,7 +7,7 @@ import tempfile
 import unittest
 
 from starred import AFFILIATED_ANSWER, AGAIN_ANSWER, PARENTS, STARRED, STARRED_ANSWER, STARRED_BY_NAME, STARRED_DAY
-from starred import ANSWER, SCHEDULES, STARRED_SCHEDULES, STARRED_SUPPLY, SUPPLY, quoted
+from starred import ANSWER, CURVE_11, CURVE_11_ANSWER, CURVES, SCHEDULES, STARRED_SCHEDULES, STARRED_SUPPLY, SUPPLY, quoted
 
 PACKAGES = pathlib.Path(__file__).resolve().parent
 NAMES = ("constraint.csv", "supply.csv", "schedules.csv")
@@ -75,6 +75,73 @@ class Check(Case):
         supply.write_bytes(b"x" * (MOST_BYTES + 1))
         (self.folder / "constraint.csv").unlink()
         self.fails(1, "refused: supply.csv is too long, a file may have 65536 bytes\n", "check", self.folder)
+
+
+class Curves(Case):
+    def setUp(self):
+        super().setUp()
+        self.curves = self.folder / "curves.csv"
+
+    def test_read_where_it_is_there(self):
+        self.curves.write_bytes(CURVE_11)
+        self.answers(CURVE_11_ANSWER, "study", self.folder)
+        self.answers(CURVE_11_ANSWER, "study", self.folder, "--day", self.day)
+        self.assertEqual(self.day.read_text(), STARRED_DAY + "\n")
+
+    def test_empty(self):
+        for content in (b"", CURVES):
+            self.curves.write_bytes(content)
+            self.answers(STARRED_ANSWER, "study", self.folder)
+
+    def test_beside_parents(self):
+        self.curves.write_bytes(CURVE_11)
+        (self.folder / "parents.csv").write_bytes(PARENTS + b"1,2\r\n")
+        self.answers(CURVE_11_ANSWER.replace(b"14,4,F,5000000,", b"14,4,F,0,"), "study", self.folder)
+
+    def test_no_row(self):
+        self.curves.write_bytes(CURVE_11 + b"11,2,6,100,2000\r\n")
+        words = (
+            "refused with 32: a point of a curve has no row in schedules\n"
+            "curves.csv, record 3: 11,2,6,100,2000\n"
+            "hours of unit 11, schedule 2 in schedules.csv: 5\n"
+            "docs/REFUSALS.md says how to mend it, under 32\n"
+        )
+        self.fails(1, words, "study", self.folder)
+
+    def test_no_rise(self):
+        self.curves.write_bytes(CURVE_11 + b"11,2,5,100,2500\r\n")
+        words = (
+            "refused with 33: a curve doesn't rise from point to point, or has more than ten\n"
+            "curves.csv, record 3: 11,2,5,100,2500\n"
+            "it is no higher in mw than the point before, record 2: 11,2,5,100,2000\n"
+            "docs/REFUSALS.md says how to mend it, under 33\n"
+        )
+        self.fails(1, words, "study", self.folder)
+
+    def test_ends_low(self):
+        self.day.write_text("4;\n")
+        self.curves.write_bytes(CURVES + b"11,2,5,50,1000\r\n")
+        words = (
+            "refused with 34: a curve ends below ecomin\n"
+            "curves.csv, record 1: 11,2,5,50,1000\n"
+            "the last mw of its curve should be at least ecomin, which is 100 in "
+            "schedules.csv, record 2: 11,2,C,5,100,3000,50000,20000,1\n"
+            "docs/REFUSALS.md says how to mend it, under 34\n"
+        )
+        self.fails(1, words, "study", self.folder, "--day", self.day)
+        self.fails(1, words, "preview", 14, self.folder, "--day", self.day)
+
+    def test_length(self):
+        self.curves.write_bytes(b"x" * MOST_BYTES)
+        self.fails(1, "refused with 2: ", "study", self.folder)
+        self.curves.write_bytes(b"x" * (MOST_BYTES + 1))
+        (self.folder / "constraint.csv").unlink()
+        self.fails(1, "refused: curves.csv is too long, a file may have 65536 bytes\n", "study", self.folder)
+
+    def test_no_part_in_the_check(self):
+        for content in (b"\t", b"x" * (MOST_BYTES + 1)):
+            self.curves.write_bytes(content)
+            self.answers(NOTHING_TO_REFUSE, "check", self.folder)
 
 
 class Parents(Case):
@@ -200,6 +267,10 @@ class Preview(Case):
         self.shows(b"11,1,F,0,2,C,830000", 11, self.folder, "--day", self.day)
         self.answers(AGAIN_ANSWER, "study", self.folder, "--day", self.day)
 
+    def test_curves(self):
+        (self.folder / "curves.csv").write_bytes(CURVE_11)
+        self.shows(b"11,1,F,0,2,C,920000", 11, self.folder)
+
     def test_parents(self):
         (self.folder / "parents.csv").write_bytes(PARENTS + b"1,2\r\n")
         self.shows(b"14,4,F,0,1,M,500000", 14, self.folder)
@@ -284,7 +355,7 @@ class Tidy(Case):
         self.fails(1, "refused with 2: ", "tidy", self.supply)
 
     def test_any_other_name(self):
-        for name in ("other.csv", "parents.csv", "supply"):
+        for name in ("other.csv", "curves.csv", "parents.csv", "supply"):
             path = self.folder / name
             path.write_bytes(STARRED_SUPPLY)
             words = f"{path} has none of the names constraint.csv, supply.csv, schedules.csv: say with --as which file it is\n"
@@ -325,6 +396,7 @@ class Usage(Case):
             ("tidied", self.folder),
             ("tidy",),
             ("tidy", self.folder),
+            ("tidy", self.folder / "supply.csv", "--as", "curves"),
             ("tidy", self.folder / "supply.csv", "--as", "parents"),
             ("tidy", self.folder / "supply.csv", "--day", self.day),
             ("check",),
@@ -355,10 +427,10 @@ class Usage(Case):
             for words in (b"exit status:", b"  0  there", b"  1  refused", b"  2  wrong usage", b"docs/REFUSALS.md"):
                 self.assertIn(words, ran.stdout)
 
-    def test_help_says_what_reads_parents(self):
+    def test_help_says_what_reads_curves_and_parents(self):
         for arguments in ((), ("check",), ("study",), ("preview",)):
             printed = self.run_command(*arguments, "--help").stdout
-            self.assertIn(b"A study and a preview read parents.csv too where FOLDER has it", printed)
+            self.assertIn(b"A study and a preview read curves.csv and parents.csv too where FOLDER has them", printed)
             self.assertIn(b"A check takes the three files alone.", printed)
 
     def test_help_says_that_a_preview_moves_nothing(self):

@@ -7,7 +7,7 @@ import unittest
 import capping
 from capping import Day, Running
 from starred import AFFILIATED_ANSWER, AGAIN_ANSWER, ANSWER, CONSTRAINT, HOUR_5, PARENTS, SCHEDULES, STARRED, STARRED_ANSWER
-from starred import LARGEST, STARRED_DAY, SUPPLY, DayCase, others
+from starred import CURVE_11, CURVE_11_ANSWER, CURVES, LARGEST, STARRED_DAY, SUPPLY, DayCase, others
 
 STARRED_RUNNING = (Running(11, "C", 2), Running(12, "M", 1), Running(13, "C", 1), Running(14, "M", 1))
 NO_UNITS_HOUR_4 = (CONSTRAINT + b"4,1000,300\r\n", SUPPLY, SCHEDULES)
@@ -61,6 +61,20 @@ class Study(DayCase):
         self.refused_unchanged(35, 5, 2, day, day.study, *STARRED, parents=PARENTS + b"1,2\r\n1,2")
         self.refused_unchanged(36, 5, 2, day, day.study, *STARRED, parents=PARENTS + b"1,2\r\n2,3\r\n3,2")
         self.refused_unchanged(36, 5, 1, day, day.study, *NO_UNITS_HOUR_4, parents=PARENTS + b"1,1")
+
+    def test_curves(self):
+        day = Day.fresh()
+        self.assertEqual(day.study(*STARRED, curves=CURVE_11), CURVE_11_ANSWER)
+        self.assertEqual(str(day), STARRED_DAY)
+        self.assertEqual(day.study(*STARRED, curves=CURVE_11), AGAIN_ANSWER.replace(b"2,C,830000", b"2,C,720000"))
+        self.assertEqual(day.study(*STARRED, curves=CURVES), AGAIN_ANSWER)
+
+    def test_refused_by_curves(self):
+        day = Day.parse(STARRED_DAY)
+        self.refused_unchanged(32, 4, 1, day, day.study, *STARRED, curves=CURVES + b"11,3,5,100,1")
+        self.refused_unchanged(33, 4, 3, day, day.study, *STARRED, curves=CURVE_11 + b"11,2,5,100,2000")
+        day = Day.parse("6;")
+        self.refused_unchanged(34, 4, 1, day, day.study, *STARRED, curves=CURVES + b"11,2,5,99,1")
 
     def test_refused_by_the_hour(self):
         day = Day.parse(STARRED_DAY)

@@ -5,7 +5,7 @@ import capping
 from capping import columns
 from capping.explain import explained, shown
 from starred import CONSTRAINT, HOUR_5, PARENTS, SCHEDULES, STARRED, STARRED_DAY, STARRED_SCHEDULES, STARRED_SUPPLY, SUPPLY
-from starred import others
+from starred import CURVES, others
 
 BUT_CONSTRAINT = (STARRED_SUPPLY, STARRED_SCHEDULES)
 ROW_11 = b"11,1,M,5,100,4000,50000,20000,1\r\n"
@@ -130,15 +130,65 @@ class BetweenRows(Case):
         self.assertEqual(self.told((hour_6, *BUT_CONSTRAINT), "schedules.csv, unit 11"), 9)
 
 
+class OfCurves(Case):
+    def told_of(self, points, *details, schedules=STARRED_SCHEDULES):
+        return self.told((HOUR_5, STARRED_SUPPLY, schedules, CURVES + points), *details)
+
+    def test_alone(self):
+        words = "curves.csv, record 1, goes wrong in field 5: 2000\\n"
+        self.assertEqual(self.told_of(b"11,2,5,100,2000\n", words), 1)
+        words = "curves.csv, record 0: (blank)", "the header should be: unit,schedule,hour,mw,price"
+        self.assertEqual(self.told((*STARRED, b"\r\n"), *words), 2)
+        words = "curves.csv, record 2: 11,2", "it has 2 fields and should have 5"
+        self.assertEqual(self.told_of(b"11,2,5,100,2000\r\n11,2", *words), 2)
+        words = (
+            "curves.csv, record 1: 11,2,5,100.0,2000",
+            "field 4, mw: 100.0",
+            "it should be a whole number from 0 to 100000 (tenths of a MW), in digits alone with no leading zero",
+        )
+        self.assertEqual(self.told_of(b"11,2,5,100.0,2000", *words), 3)
+        words = "curves.csv has 4097 rows below its header and should have at most 4096"
+        self.assertEqual(self.told_of(b"11,2,5,1,1\r\n" * 4097, words), 4)
+
+    def test_no_row(self):
+        words = "curves.csv, record 1: 11,3,5,100,2000", "hours of unit 11, schedule 3 in schedules.csv: none"
+        self.assertEqual(self.told_of(b"11,3,5,100,2000", *words), 32)
+        later = STARRED_SCHEDULES + b"11,2,C,23,100,1,1,20000,1\r\n11,2,C,6,100,1,1,20000,1\r\n"
+        words = 'curves.csv, record 2: "11",2,7,100,1', "hours of unit 11, schedule 2 in schedules.csv: 5, 6, 23"
+        self.assertEqual(self.told_of(b'11,2,5,100,1\r\n"11",2,7,100,1', *words, schedules=later), 32)
+
+    def test_no_rise(self):
+        for point, level in ((b"100,3000", "mw"), (b"200,2000", "price"), (b"99,1999", "mw and price")):
+            words = (
+                f"curves.csv, record 4: 11,2,5,{point.decode()}",
+                f"it is no higher in {level} than the point before, record 2: 11,2,5,\"100\",2000",
+            )
+            points = b'11,2,5,50,1000\r\n11,2,5,"100",2000\r\n12,2,5,900,9000\r\n11,2,5,' + point
+            self.assertEqual(self.told_of(points, *words), 33)
+
+    def test_eleventh_point(self):
+        ten = b"".join(b"11,2,5,%d,%d\r\n" % (100 + nth, nth) for nth in range(10))
+        count = "with it there are 11 points of its curve (of at most 10)"
+        self.assertEqual(self.told_of(ten + b"11,2,5,200,99", "curves.csv, record 11: 11,2,5,200,99", count), 33)
+        level = "it is no higher in mw than the point before, record 10: 11,2,5,109,9"
+        self.assertEqual(self.told_of(ten + b"11,2,5,109,99", "curves.csv, record 11: 11,2,5,109,99", level, count), 33)
+
+    def test_ends_low(self):
+        where = "schedules.csv, record 2: 11,2,C,5,100,3000,50000,20000,1"
+        low = f"the last mw of its curve should be at least ecomin, which is 100 in {where}"
+        points = b"11,2,5,50,1\r\n12,2,5,100,1\r\n11,2,5,99,2"
+        self.assertEqual(self.told_of(points, "curves.csv, record 3: 11,2,5,99,2", low), 34)
+
+
 class OfParents(Case):
     def told_of(self, rows, *details):
-        return self.told((*STARRED, PARENTS + rows), *details)
+        return self.told((*STARRED, b"", PARENTS + rows), *details)
 
     def test_alone(self):
         words = "parents.csv, record 1, goes wrong in field 2: 2\\n"
         self.assertEqual(self.told_of(b"1,2\n", words), 1)
         words = "parents.csv, record 0: (blank)", "the header should be: supplier,parent"
-        self.assertEqual(self.told((*STARRED, b"\r\n"), *words), 2)
+        self.assertEqual(self.told((*STARRED, b"", b"\r\n"), *words), 2)
         words = "parents.csv, record 2: 3", "it has 1 field and should have 2"
         self.assertEqual(self.told_of(b"1,2\r\n3", *words), 2)
         words = (

@@ -7,7 +7,7 @@ import unittest
 import capping
 from capping import Day, Row
 from starred import ANSWER, CONSTRAINT, HOUR_5, LARGEST, PARENTS, STARRED, STARRED_ANSWER, STARRED_DAY, STARRED_SCHEDULES
-from starred import STARRED_SUPPLY, DayCase, others
+from starred import CURVE_11, CURVES, STARRED_SUPPLY, DayCase, others
 
 ROW_14 = Row(14, 4, "F", 5000000, 1, "M", 500000)
 ON_COST_14 = ROW_14._replace(schedule=2, kind="C", cost=220000)
@@ -22,13 +22,13 @@ def at_relief(relief):
 
 
 class Accepted(DayCase):
-    def previewed(self, unit, files=STARRED, day="-", parents=b""):
+    def previewed(self, unit, files=STARRED, day="-", **beside):
         """The row of a unit, which must be the study's too. A preview leaves every cell of the day."""
         day = day if isinstance(day, Day) else Day.parse(day)
         before = day.cells
-        row = day.preview(*files, unit, parents=parents)
+        row = day.preview(*files, unit, **beside)
         self.assertEqual(day.cells, before)
-        self.assertIn(str(row).encode(), day.study(*files, parents=parents).split(b"\r\n"))
+        self.assertIn(str(row).encode(), day.study(*files, **beside).split(b"\r\n"))
         return row
 
     def test_fields(self):
@@ -62,6 +62,13 @@ class Accepted(DayCase):
         self.assertEqual(self.previewed(14, parents=PARENTS + b"1,2\r\n"), ROW_14._replace(left=0))
         self.assertEqual(self.previewed(14, parents=PARENTS), ROW_14)
 
+    def test_curves(self):
+        row = Row(11, 1, "F", 0, 2, "C", 920000)
+        self.assertEqual(self.previewed(11, curves=CURVE_11), row)
+        self.assertEqual(self.previewed(11, day=STARRED_DAY, curves=CURVE_11), row._replace(cost=720000))
+        self.assertEqual(self.previewed(14, curves=CURVE_11), ROW_14)
+        self.assertEqual(self.previewed(14, curves=CURVE_11, parents=PARENTS + b"1,2"), ROW_14._replace(left=0))
+
     def test_64_units_would_run(self):
         self.assertEqual(self.previewed(14, day=others(60)), ROW_14)
 
@@ -72,9 +79,9 @@ class Accepted(DayCase):
 
 
 class Refused(DayCase):
-    def refused_for(self, unit, refusal, day, files=STARRED, parents=b""):
+    def refused_for(self, unit, refusal, day, files=STARRED, **beside):
         day = Day.parse(day)
-        self.refused_unchanged(*refusal, day, day.preview, *files, unit, parents=parents)
+        self.refused_unchanged(*refusal, day, day.preview, *files, unit, **beside)
 
     def test_not_in_supply(self):
         for unit in (0, 10, 15, 101, LARGEST, LARGEST + 1, LARGEST + 12, -1):
@@ -94,6 +101,7 @@ class Refused(DayCase):
             self.refused_for(unit, (24, 0, 0), "5;12:M:1,11:M:1")
             self.refused_for(unit, (24, 0, 0), "24;", (b"", b"", b""))
             self.refused_for(unit, (2, 1, 0), STARRED_DAY, (b"", b"", b""))
+            self.refused_for(unit, (34, 4, 1), "6;", curves=CURVES + b"11,2,5,99,1")
             self.refused_for(unit, (36, 5, 2), "6;", parents=RING)
 
     def test_words(self):

@@ -25,7 +25,7 @@ pub extern "C" fn capping_day_fresh(day: &mut [u64; CELLS])
     lay_down(Day::fresh(), day);
 }
 
-// Studies the day; parents of no bytes are none. Answers how many bytes were written, 0 where it is
+// Studies the day; curves or parents of no bytes are none. Answers how many bytes were written, 0 where it is
 // refused; the report is number, file and place, all 0 where it is accepted.
 #[no_mangle]
 pub extern "C" fn capping_day_study(
@@ -33,15 +33,16 @@ pub extern "C" fn capping_day_study(
     constraint: &[u8],
     supply: &[u8],
     schedules: &[u8],
+    curves: &[u8],
     parents: &[u8],
     answer: &mut [u8],
     report: &mut [u64; 3],
 ) -> u64
-    ensures { λ r. ⌜ DayStudied (studied (dayIn (now (day .entry))) (files (now (constraint .entry)) (now (supply .entry)) (now (schedules .entry)) (now (parents .entry))) (now (answer .entry))) (now (day .entry)) (now (day .exit)) (now (answer .exit)) (now (report .exit)) r ⌝ }
-    ensures { λ r. ⌜ ToldRight (dayIn (now (day .entry))) (files (now (constraint .entry)) (now (supply .entry)) (now (schedules .entry)) (now (parents .entry))) (now (answer .exit)) r ⌝ }
+    ensures { λ r. ⌜ DayStudied (studied (dayIn (now (day .entry))) (files (now (constraint .entry)) (now (supply .entry)) (now (schedules .entry)) (now (curves .entry)) (now (parents .entry))) (now (answer .entry))) (now (day .entry)) (now (day .exit)) (now (answer .exit)) (now (report .exit)) r ⌝ }
+    ensures { λ r. ⌜ ToldRight (dayIn (now (day .entry))) (files (now (constraint .entry)) (now (supply .entry)) (now (schedules .entry)) (now (curves .entry)) (now (parents .entry))) (now (answer .exit)) r ⌝ }
 {
     let given = day_in(day);
-    let studied = given.study(constraint, supply, schedules, parents, answer);
+    let studied = given.study(constraint, supply, schedules, curves, parents, answer);
     let study = studied.answer;
     let after = studied.day;
     let told = told_by_study(study);

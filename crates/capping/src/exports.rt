@@ -22,22 +22,23 @@ const FAILED: u64 = 1;
 
 const TEST_REFUSED: u64 = 11;
 
-// Studies a fresh day; parents of no bytes are none. Answers how many bytes were written, 0 where it is
+// Studies a fresh day; curves or parents of no bytes are none. Answers how many bytes were written, 0 where it is
 // refused; the report is number, file and place, all 0 where it is accepted.
 #[no_mangle]
 pub extern "C" fn capping_study(
     constraint: &[u8],
     supply: &[u8],
     schedules: &[u8],
+    curves: &[u8],
     parents: &[u8],
     answer: &mut [u8],
     report: &mut [u64; 3],
 ) -> u64
-    ensures { λ r. ⌜ StudyTold (studied freshDay (files (now (constraint .entry)) (now (supply .entry)) (now (schedules .entry)) (now (parents .entry))) (now (answer .entry))) (now (answer .exit)) (now (report .exit)) r ⌝ }
-    ensures { λ r. ⌜ ToldRight freshDay (files (now (constraint .entry)) (now (supply .entry)) (now (schedules .entry)) (now (parents .entry))) (now (answer .exit)) r ⌝ }
+    ensures { λ r. ⌜ StudyTold (studied freshDay (files (now (constraint .entry)) (now (supply .entry)) (now (schedules .entry)) (now (curves .entry)) (now (parents .entry))) (now (answer .entry))) (now (answer .exit)) (now (report .exit)) r ⌝ }
+    ensures { λ r. ⌜ ToldRight freshDay (files (now (constraint .entry)) (now (supply .entry)) (now (schedules .entry)) (now (curves .entry)) (now (parents .entry))) (now (answer .exit)) r ⌝ }
 {
     let day = Day::fresh();
-    let studied = day.study(constraint, supply, schedules, parents, answer);
+    let studied = day.study(constraint, supply, schedules, curves, parents, answer);
     let study = studied.answer;
     report_on(told_by_study(study), report);
     count_of(study)

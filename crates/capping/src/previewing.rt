@@ -13,7 +13,7 @@ use crate::days::day_in;
 use cells::answer::WIDTH;
 use engine::Preview;
 
-// Shows the row that a study of the day would write for the unit; parents of no bytes are none. Answers 0, or
+// Shows the row that a study of the day would write for the unit; curves or parents of no bytes are none. Answers 0, or
 // the number of the refusal, as in the report; where it is refused the row is left as it was.
 #[no_mangle]
 pub extern "C" fn capping_preview(
@@ -21,16 +21,17 @@ pub extern "C" fn capping_preview(
     constraint: &[u8],
     supply: &[u8],
     schedules: &[u8],
+    curves: &[u8],
     parents: &[u8],
     unit: u64,
     row: &mut [u64; WIDTH],
     report: &mut [u64; 3],
 ) -> u64
-    ensures { λ r. ⌜ PreviewTold (previewed (dayIn (now (day .entry))) (files (now (constraint .entry)) (now (supply .entry)) (now (schedules .entry)) (now (parents .entry))) unit) (now (row .entry)) (now (row .exit)) (now (report .exit)) r ⌝ }
-    ensures { λ r. ⌜ ShownRight (dayIn (now (day .entry))) (files (now (constraint .entry)) (now (supply .entry)) (now (schedules .entry)) (now (parents .entry))) unit (now (row .exit)) r ⌝ }
+    ensures { λ r. ⌜ PreviewTold (previewed (dayIn (now (day .entry))) (files (now (constraint .entry)) (now (supply .entry)) (now (schedules .entry)) (now (curves .entry)) (now (parents .entry))) unit) (now (row .entry)) (now (row .exit)) (now (report .exit)) r ⌝ }
+    ensures { λ r. ⌜ ShownRight (dayIn (now (day .entry))) (files (now (constraint .entry)) (now (supply .entry)) (now (schedules .entry)) (now (curves .entry)) (now (parents .entry))) unit (now (row .exit)) r ⌝ }
 {
     let given = day_in(day);
-    let previewed = given.preview(constraint, supply, schedules, parents, unit);
+    let previewed = given.preview(constraint, supply, schedules, curves, parents, unit);
     let preview = previewed.answer;
     let told = told_by_preview(preview);
     show(preview, row);

@@ -61,15 +61,23 @@ module _ {A : Type 0} (view : List ℕ → ℕ → A) (change : ℕ → A → A)
       here j e = rw e (changed ∙ ap (change i) (so-far .kept i (omega arith)))
 
   -- all are: the rows are what is wanted, row by row
+  module _
+      (new : List ℕ) (rows : List A) (long : length rows ≡ n)
+      (next : (j : ℕ) → j < n → drop j rows ≡ view new j ∷ drop (j + 1) rows) (wanted : ℕ → List A) (none-left : wanted n ≡ [])
+      (more : (j : ℕ) → j < n → wanted j ≡ change j (view old j) ∷ wanted (j + 1))
+    where
+      pub changed-rows : ((j : ℕ) → j < n → view new j ≡ change j (view old j)) → rows ≡ wanted 0
+      changed-rows each = from n 0 (omega arith)
+        where
+          from : (m j : ℕ) → m + j ≡ n → drop j rows ≡ wanted j
+          from zero j e =
+              let last : j ≡ n = omega arith in
+              rw (drop-end j rows (omega arith), last, none-left)
+          from (suc m) j e = rw (next j (omega arith), more j (omega arith), each j (omega arith), from m (j + 1) (omega arith))
+
   pub changing-over :
       (new : List ℕ) (i : ℕ) → Changing new i → n ≤ i → (rows : List A) → length rows ≡ n →
       ((j : ℕ) → j < n → drop j rows ≡ view new j ∷ drop (j + 1) rows) → (wanted : ℕ → List A) → wanted n ≡ [] →
       ((j : ℕ) → j < n → wanted j ≡ change j (view old j) ∷ wanted (j + 1)) → rows ≡ wanted 0
-  changing-over new i all h rows long next wanted none-left more = from n 0 (omega arith)
-    where
-      from : (m j : ℕ) → m + j ≡ n → drop j rows ≡ wanted j
-      from zero j e =
-          let last : j ≡ n = omega arith in
-          rw (drop-end j rows (omega arith), last, none-left)
-      from (suc m) j e =
-          rw (next j (omega arith), more j (omega arith), all .done j (omega arith), from m (j + 1) (omega arith))
+  changing-over new i all h rows long next wanted none-left more =
+      changed-rows new rows long next wanted none-left more (λ (j : ℕ) (f : j < n). all .done j (omega arith))

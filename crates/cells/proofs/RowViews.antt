@@ -7,9 +7,9 @@ use native.Mathlib.Nat.{suc-mul, zero-mul, le-of-suc-le-suc, not-suc-le-zero}
 use native.Mathlib.Numerals.{add-one}
 use lib.ListN.{length, getD, take, drop, length-map}
 use lib.Seq.{drop-drop, getD-drop, getD-take}
-use Rattle.tables.specs.Rows.{supplyRow, scheduleRow, parentRow}
-use Rattle.tables.specs.promises.FlatRows.{rowsOf, supplyRows, scheduleRows, parentRows}
-use Rattle.cells.specs.promises.Views.{supplyAt, scheduleAt, parentAt, answerAt, answerRow, answerRows}
+use Rattle.tables.specs.Rows.{supplyRow, scheduleRow, pointRow, parentRow}
+use Rattle.tables.specs.promises.FlatRows.{rowsOf, supplyRows, scheduleRows, pointRows, parentRows}
+use Rattle.cells.specs.promises.Views.{supplyAt, scheduleAt, pointAt, parentAt, answerAt, answerRow, answerRows}
 
 pub rows-length : (w n : ℕ) (cs : List ℕ) → length (rowsOf w n cs) ≡ n
 unfolding rowsOf
@@ -87,6 +87,27 @@ schedule-next n cs i h =
 pub schedule-length : (n : ℕ) (cs : List ℕ) → length (scheduleRows n cs) ≡ n
 unfolding scheduleRows
 schedule-length n cs = length-map (rowsOf 9 n cs) scheduleRow ∙ rows-length 9 n cs
+
+-- the points of curves
+point-cells : (cs : List ℕ) (i : ℕ) → pointRow (take 5 (drop (i * 5) cs)) ≡ pointAt cs i
+point-cells cs i =
+    rw (
+      cell-at 5 cs i 0 (omega arith),
+      cell-at 5 cs i 1 (omega arith),
+      cell-at 5 cs i 2 (omega arith),
+      cell-at 5 cs i 3 (omega arith),
+      cell-at 5 cs i 4 (omega arith),
+    )
+
+pub point-next :
+    (n : ℕ) (cs : List ℕ) (i : ℕ) → i < n → drop i (pointRows n cs) ≡ pointAt cs i ∷ drop (i + 1) (pointRows n cs)
+unfolding pointRows
+point-next n cs i h =
+    rw (add-one i, map-drop pointRow i (rowsOf 5 n cs), row-at 5 n cs i h, map-drop pointRow (suc i) (rowsOf 5 n cs), point-cells cs i)
+
+pub point-length : (n : ℕ) (cs : List ℕ) → length (pointRows n cs) ≡ n
+unfolding pointRows
+point-length n cs = length-map (rowsOf 5 n cs) pointRow ∙ rows-length 5 n cs
 
 -- the rows of parents
 parent-cells : (cs : List ℕ) (i : ℕ) → parentRow (take 2 (drop (i * 2) cs)) ≡ parentAt cs i

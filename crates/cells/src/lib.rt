@@ -2,6 +2,7 @@
 // the cell of a row in a column. And how many rows and units a study has, by value.
 pub mod answer;
 pub mod parent;
+pub mod point;
 pub mod schedule;
 mod sizes;
 pub mod supply;

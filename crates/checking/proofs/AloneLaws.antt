@@ -122,7 +122,7 @@ module _ (s old new : List ℕ) (r : Reading) (read : FileRead Supply s old new 
 
 -- schedules
 module _ (h old new : List ℕ) (r : Reading) (read : FileRead Schedules h old new r) where
-  pub schedules-unread : (links : List ℕ) {x : Refusal} → r ≡ NotRead x → SchedulesChecked (aloneRefusals Schedules h) h new links (NotRead x)
+  pub schedules-unread : (links : List ℕ) {x : Refusal} → r ≡ NotRead x → SchedulesChecked (aloneRefusals Schedules h) (schedulesOf h) new links (NotRead x)
   unfolding aloneRefusals
   schedules-unread links {x} e =
       let first : firstOf (aloneRefusals Schedules h) ≡ some x = first-of-here _ _ _ (was-refused Schedules h (read .answers) e) in
@@ -152,7 +152,7 @@ module _ (h old new : List ℕ) (r : Reading) (read : FileRead Schedules h old n
         (links : List ℕ) → RowsLinked new n links → (odd : ℕ) → odd ≡ Option·getD (schedulesAtOdds (scheduleRows n new)) 0 →
         (fault : Lowest) → faultIn fault ≡ recordAt odd →
         (a : Reading) → a ≡ rowsUnless (Option·map (refused 6 Schedules) (faultIn fault)) n →
-        SchedulesChecked (aloneRefusals Schedules h) h new links a
+        SchedulesChecked (aloneRefusals Schedules h) (schedulesOf h) new links a
     unfolding aloneRefusals
     schedules-read links linked odd told fault found a answered =
         let fault-told : faultIn fault ≡ schedulesAtOdds (schedulesOf h) =
@@ -164,7 +164,7 @@ module _ (h old new : List ℕ) (r : Reading) (read : FileRead Schedules h old n
           answers = answered ∙ rw (first, fault-told, schedules-number);
           kept = λ _.
               record {
-                rows = schedule-rows h old new r schedules-were-read read;
+                laid = schedule-rows h old new r schedules-were-read read;
                 linked = rw (← schedules-number) linked;
               };
         }

@@ -8,18 +8,18 @@ use lib.ListN.{length, take, drop, length-map}
 use lib.Seq.{getD-take}
 use Rattle.tables.specs.promises.Laying.{FileRead}
 use Rattle.tables.specs.Reading.{rows, refusal}
-use Rattle.tables.specs.Rows.{constraintRow, supplyRow, scheduleRow, parentRow}
-use Rattle.tables.specs.Table.{width, table, constraintColumns, supplyColumns, schedulesColumns, parentsColumns}
+use Rattle.tables.specs.Rows.{constraintRow, supplyRow, scheduleRow, pointRow, parentRow}
+use Rattle.tables.specs.Table.{width, table, constraintColumns, supplyColumns, schedulesColumns, curvesColumns, parentsColumns}
 use Rattle.tables.specs.Values.{cells}
 use Rattle.tables.specs.declared.files.File.{File}
-use Rattle.tables.specs.declared.files.File.the-variants.{Constraint, Supply, Schedules, Parents}
+use Rattle.tables.specs.declared.files.File.the-variants.{Constraint, Supply, Schedules, Curves, Parents}
 use Rattle.tables.specs.declared.files.Refusal.{Refusal}
 use Rattle.tables.specs.declared.files.Reading.{Reading}
 use Rattle.tables.specs.declared.files.Reading.the-variants.{Rows as RowsRead, Refused as NotRead}
 use Rattle.tables.proofs.Accepted.{accepted}
 use Rattle.tables.specs.promises.Answers.{reading, laid}
-use Rattle.tables.specs.promises.FlatRows.{rowsOf, supplyRows, scheduleRows, parentRows}
-use Rattle.checking.specs.Files.{rowsAsCells, constraintOf, supplyOf, schedulesOf, orHeader, parentsOf}
+use Rattle.tables.specs.promises.FlatRows.{rowsOf, supplyRows, scheduleRows, pointRows, parentRows}
+use Rattle.checking.specs.Files.{rowsAsCells, constraintOf, supplyOf, schedulesOf, orHeader, curvesOf, parentsOf}
 
 -- what reading a file answered
 module _ (f : File) (s : List ℕ) where
@@ -57,9 +57,19 @@ pub schedules-count : (h : List ℕ) → length (schedulesOf h) ≡ length (rows
 unfolding schedulesOf
 schedules-count h = length-map (rowsAsCells Schedules h) scheduleRow ∙ rows-count Schedules h
 
+pub curves-count : (k : List ℕ) → length (curvesOf k) ≡ length (rows (orHeader Curves k))
+unfolding curvesOf
+curves-count k = length-map (rowsAsCells Curves (orHeader Curves k)) pointRow ∙ rows-count Curves (orHeader Curves k)
+
 pub parents-count : (p : List ℕ) → length (parentsOf p) ≡ length (rows (orHeader Parents p))
 unfolding parentsOf
 parents-count p = length-map (rowsAsCells Parents (orHeader Parents p)) parentRow ∙ rows-count Parents (orHeader Parents p)
+
+-- a file of some bytes isn't taken for its header
+pub some-bytes : (f : File) (s : List ℕ) → (length s ≡ 0 → ⊥) → orHeader f s ≡ s
+unfolding orHeader
+some-bytes f [] h = absurd (h refl)
+some-bytes f (b ∷ s) h = refl
 
 -- the rows that stand in the lent cells
 viewed :
@@ -78,6 +88,11 @@ module _ (s old new : List ℕ) (r : Reading) where
   schedule-rows e w = rw (schedules-count s) (ap (map scheduleRow) (viewed Schedules s old new r e w))
 
   -- of a file of some bytes, which isn't taken for its header
+  pub point-rows :
+      orHeader Curves s ≡ s → refusal Curves s ≡ none → FileRead Curves s old new r → pointRows (length (curvesOf s)) new ≡ curvesOf s
+  unfolding pointRows curvesOf width curvesColumns
+  point-rows same e w = rw (curves-count s, same) (ap (map pointRow) (viewed Curves s old new r e w))
+
   pub parent-rows :
       orHeader Parents s ≡ s → refusal Parents s ≡ none → FileRead Parents s old new r →
       parentRows (length (parentsOf s)) new ≡ parentsOf s

@@ -12,18 +12,19 @@ use Rattle.base.specs.Rising.{inserted}
 use Rattle.base.specs.Search.{All, all-none, all-more}
 use Rattle.base.proofs.Searches.{first-of-none, option-map-none}
 use Rattle.base.proofs.Tests.{or-fst, or-snd}
-use Rattle.tables.specs.promises.Ranges.{PermittedCells, PermittedConstraint, PermittedSupply, PermittedSchedule, PermittedParent}
+use Rattle.tables.specs.promises.Ranges.{PermittedCells, PermittedConstraint, PermittedSupply, PermittedSchedule, PermittedPoint, PermittedParent}
 use Rattle.tables.specs.Reading.{refusal}
-use Rattle.tables.specs.Rows.{SupplyRow, constraintRow, supplyRow, scheduleRow, parentRow}
+use Rattle.tables.specs.Rows.{SupplyRow, constraintRow, supplyRow, scheduleRow, pointRow, parentRow}
 use Rattle.tables.specs.Table.{table, constraintColumns}
 use Rattle.tables.specs.declared.files.File.{File}
-use Rattle.tables.specs.declared.files.File.the-variants.{Constraint, Supply, Schedules, Parents}
+use Rattle.tables.specs.declared.files.File.the-variants.{Constraint, Supply, Schedules, Curves, Parents}
 use Rattle.tables.proofs.Accepted.{accepted}
 use Rattle.tables.specs.Refusals.{refused}
 use Rattle.tables.proofs.Permitted as Permitted
-use Rattle.checking.specs.Files.{Files, rowsAsCells, constraintOf, supplyOf, schedulesOf, orHeader, parentsOf, affiliateRefusals, aloneRefusals, marketRefusals, schedulesRefusals, unitsRefusals, besideRefusals, checkRefusals, checkRefusal}
+use Rattle.checking.specs.Files.{Files, rowsAsCells, constraintOf, supplyOf, schedulesOf, orHeader, curvesOf, parentsOf, pointRefusals, affiliateRefusals, aloneRefusals, marketRefusals, schedulesRefusals, curvesRefusals, unitsRefusals, besideRefusals, checkRefusals, checkRefusal}
 use Rattle.checking.specs.promises.Kept.{Kept}
 use Rattle.affiliates.specs.Affiliates.{givenTwice, ringed}
+use Rattle.curves.specs.Curves.{strayPoint, disordered, endsLow}
 use Rattle.numbers.specs.Numbers.{numbersFrom, numbersOf}
 use Rattle.schedules.specs.Schedules.{schedulesAtOdds, notInSupply, unscheduled}
 use Rattle.schedules.specs.Runs.{lacking}
@@ -57,6 +58,10 @@ supply-kept s e = all-mapped supplyRow (λ (x : List ℕ) p. Permitted.supply-pe
 pub schedules-kept : (h : List ℕ) → refusal Schedules h ≡ none → All PermittedSchedule (schedulesOf h)
 unfolding schedulesOf
 schedules-kept h e = all-mapped scheduleRow (λ (x : List ℕ) p. Permitted.schedule-permitted p) (permitted Schedules h e)
+
+pub curves-kept : (k : List ℕ) → refusal Curves (orHeader Curves k) ≡ none → All PermittedPoint (curvesOf k)
+unfolding curvesOf
+curves-kept k e = all-mapped pointRow (λ (x : List ℕ) q. Permitted.point-permitted q) (permitted Curves (orHeader Curves k) e)
 
 pub parents-kept : (p : List ℕ) → refusal Parents (orHeader Parents p) ≡ none → All PermittedParent (parentsOf p)
 unfolding parentsOf
@@ -108,7 +113,7 @@ pub suppliers-few : (rs : List SupplyRow) → overLimit rs ≡ none → length (
 suppliers-few rs e = few rs e .few-suppliers
 
 pub kept : (f : Files) → checkRefusal f ≡ none → Kept f
-unfolding affiliateRefusals aloneRefusals marketRefusals schedulesRefusals unitsRefusals besideRefusals checkRefusals checkRefusal
+unfolding pointRefusals affiliateRefusals aloneRefusals marketRefusals schedulesRefusals curvesRefusals unitsRefusals besideRefusals checkRefusals checkRefusal
 kept f e =
     let c = f .constraint in
     let s = f .supply in
@@ -122,7 +127,11 @@ kept f e =
     let d = first-of-none (refusal Schedules h) _ (o6 .1) in
     let p6 = first-of-none _ _ (d .1) in
     let p7 = first-of-none _ _ (p6 .1) in
-    let g = first-of-none (refusal Parents (orHeader Parents (f .parents))) _ (p7 .1) in
+    let k = first-of-none (refusal Curves (orHeader Curves (f .curves))) _ (p7 .1) in
+    let k32 = first-of-none _ _ (k .1) in
+    let k33 = first-of-none _ _ (k32 .1) in
+    let k34 = first-of-none _ _ (k33 .1) in
+    let g = first-of-none (refusal Parents (orHeader Parents (f .parents))) _ (k34 .1) in
     let g35 = first-of-none _ _ (g .1) in
     let g36 = first-of-none _ _ (g35 .1) in
     let p8 = first-of-none _ _ (g36 .1) in
@@ -132,10 +141,12 @@ kept f e =
       constraint-read = a .0;
       supply-read = b .0;
       schedules-read = d .0;
+      curves-read = k .0;
       parents-read = g .0;
       constraint-permitted = constraint-kept c (a .0);
       supply-permitted = supply-kept s (b .0);
       schedules-permitted = schedules-kept h (d .0);
+      curves-permitted = curves-kept (f .curves) (k .0);
       parents-permitted = parents-kept (f .parents) (g .0);
       supply-few = rw (supply-count s) (accepted Supply s (b .0) .most);
       schedules-few = rw (schedules-count h) (accepted Schedules h (d .0) .most);
@@ -145,6 +156,9 @@ kept f e =
       supply-agrees = option-map-none (refused 6 Supply) (supplyAtOdds (supplyOf s)) (o6 .0);
       schedules-agree = option-map-none (refused 6 Schedules) (schedulesAtOdds rs) (p6 .0);
       known = option-map-none (refused 7 Schedules) (notInSupply us rs) (p7 .0);
+      points-placed = option-map-none (refused 32 Curves) (strayPoint rs (curvesOf (f .curves))) (k32 .0);
+      points-ordered = option-map-none (refused 33 Curves) (disordered (curvesOf (f .curves))) (k33 .0);
+      curves-reach = option-map-none (refused 34 Curves) (endsLow rs (curvesOf (f .curves))) (k34 .0);
       given-once = option-map-none (refused 35 Parents) (givenTwice (parentsOf (f .parents))) (g35 .0);
       unringed = option-map-none (refused 36 Parents) (ringed (parentsOf (f .parents))) (g36 .0);
       scheduled = option-map-none (refused 8 Schedules) (unscheduled us rs) (p8 .0);

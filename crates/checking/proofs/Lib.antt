@@ -1,9 +1,11 @@
 pub mod AloneLaws
 pub mod Computing
+pub mod CurvesLaws
 pub mod FilesLaws
 pub mod KeptLaws
 pub mod MarketLaws
 pub mod ParentsLaws
+pub mod PricedRuleLaws
 pub mod Rooms
 pub mod RuleLaws
 pub mod StepLaws

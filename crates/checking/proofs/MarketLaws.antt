@@ -31,9 +31,9 @@ refusal-answered (some y) c s e = cc
 
 module _ (c s supply us : List ℕ) {q : MarketCheck} (market : MarketChecked c s supply us q) where
   -- the market is refused
-  pub market-refused : (h p : List ℕ) {x : Refusal} → q ≡ Refused x → checkRefusal (files c s h p) ≡ some x
+  pub market-refused : (h k p : List ℕ) {x : Refusal} → q ≡ Refused x → checkRefusal (files c s h k p) ≡ some x
   unfolding checkRefusal checkRefusals
-  market-refused h p {x} e =
+  market-refused h k p {x} e =
       first-of-part (marketRefusals c s) _ x
       (refusal-answered (firstOf (marketRefusals c s)) c s (sym (market .answers) ∙ e))
 
@@ -62,7 +62,7 @@ module _ (c s supply us : List ℕ) {q : MarketCheck} (market : MarketChecked c 
 
     -- the first refusal is that of what comes behind
     pub schedules-first :
-        (h p : List ℕ) →
-        checkRefusal (files c s h p) ≡ firstOf (besideRefusals (aloneRefusals Parents p) (m .constraint .hour) (take (m .units) us) h)
+        (h k p : List ℕ) →
+        checkRefusal (files c s h k p) ≡ firstOf (besideRefusals (aloneRefusals Parents p) (m .constraint .hour) (take (m .units) us) h k)
     unfolding checkRefusal checkRefusals
-    schedules-first h p = first-of-rest (marketRefusals c s) _ (told .0) ∙ rw (listed, told .1)
+    schedules-first h k p = first-of-rest (marketRefusals c s) _ (told .0) ∙ rw (listed, told .1)

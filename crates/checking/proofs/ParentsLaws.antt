@@ -62,11 +62,6 @@ no-parents-passed [] e n supply =
     }
 no-parents-passed (b ∷ p) e n supply = absurd (omega arith)
 
-pub some-bytes : (p : List ℕ) → (length p ≡ 0 → ⊥) → orHeader Parents p ≡ p
-unfolding orHeader
-some-bytes [] h = absurd (h refl)
-some-bytes (b ∷ p) h = refl
-
 -- rows of parents, held to 35 and 36
 module _ (count : ℕ) (cells run : List ℕ) (twice : ℕ) (laid : ParentsLaid (parentRows count cells) run twice) where
   abbrev ps : List ParentRow

@@ -23,7 +23,7 @@ use Rattle.schedules.proofs.PlaceLaws.{not-in-supply-none}
 use Rattle.schedules.specs.Runs.{lacking}
 use Rattle.checking.specs.promises.Alone.{rowsUnless}
 use Rattle.checking.specs.Files.{unitsRefusals}
-use Rattle.checking.specs.promises.Rules.{faultIn, recordAt, heldRefusals}
+use Rattle.checking.specs.promises.Rules.{faultIn, recordAt, pricedRefusals, heldRefusals}
 use Rattle.base.proofs.FirstLaws.{first-of-one, first-of-here, first-of-later}
 
 pub some-none : {A : Type 0} {x : Refusal} → some x ≡ none → A
@@ -85,24 +85,25 @@ module _
         let ninth = Option·map (refused 9 Schedules) (lacking hour us rs) in
         second ∙ rw (first-of-later eighth (ninth ∷ []) (rows-answered _ n (sym first ∙ e) .0) ∙ first-of-one ninth)
 
--- 7, then what waits, then these
+-- 7, then all behind it
 module _
-    (waiting : Option Refusal) (hour : ℕ) (us : List ℕ) (rs : List ScheduleRow) (n : ℕ) {p : Reading}
+    (waiting : Option Refusal) (hour : ℕ) (us : List ℕ) (rs : List ScheduleRow) (k : List ℕ) (n : ℕ) {p : Reading}
     (first : p ≡ rowsUnless (Option·map (refused 7 Schedules) (notInSupply us rs)) n)
   where
-    pub seventh-broken : {x : Refusal} → p ≡ NotRead x → NotRead x ≡ rowsUnless (firstOf (heldRefusals waiting hour us rs)) n
+    pub seventh-broken : {x : Refusal} → p ≡ NotRead x → firstOf (heldRefusals waiting hour us rs k) ≡ some x
     unfolding heldRefusals
-    seventh-broken e = rw (first-of-here _ _ _ (refused-answered _ n (sym first ∙ e)))
+    seventh-broken e = first-of-here _ _ _ (refused-answered _ n (sym first ∙ e))
 
-    module _ {m : ℕ} (e : p ≡ RowsRead m) where
-      waiting-first : firstOf (heldRefusals waiting hour us rs) ≡ firstOf (waiting ∷ unitsRefusals hour us rs)
-      unfolding heldRefusals
-      waiting-first = first-of-later _ _ (rows-answered _ n (sym first ∙ e) .0)
+    pub seventh-kept : {m : ℕ} → p ≡ RowsRead m → firstOf (heldRefusals waiting hour us rs k) ≡ firstOf (pricedRefusals waiting hour us rs k)
+    unfolding heldRefusals
+    seventh-kept e = first-of-later _ _ (rows-answered _ n (sym first ∙ e) .0)
 
-      pub waited : {x : Refusal} → waiting ≡ some x → NotRead x ≡ rowsUnless (firstOf (heldRefusals waiting hour us rs)) n
-      waited w = rw (waiting-first ∙ first-of-here _ _ _ w)
+-- what waits, then 8 and 9
+module _ (waiting : Option Refusal) (hour : ℕ) (us : List ℕ) (rs : List ScheduleRow) (n : ℕ) where
+  pub waits : {x : Refusal} → waiting ≡ some x → NotRead x ≡ rowsUnless (firstOf (waiting ∷ unitsRefusals hour us rs)) n
+  waits w = rw (first-of-here _ _ _ w)
 
-      pub units-held :
-          waiting ≡ none → {r : Reading} → r ≡ rowsUnless (firstOf (unitsRefusals hour us rs)) n →
-          r ≡ rowsUnless (firstOf (heldRefusals waiting hour us rs)) n
-      units-held w held = held ∙ rw (waiting-first ∙ first-of-later _ _ w)
+  pub none-waits :
+      waiting ≡ none → {r : Reading} → r ≡ rowsUnless (firstOf (unitsRefusals hour us rs)) n →
+      r ≡ rowsUnless (firstOf (waiting ∷ unitsRefusals hour us rs)) n
+  none-waits w held = held ∙ rw (first-of-later _ _ w)

@@ -22,12 +22,14 @@ use Rattle.tables.specs.promises.FlatRows.{scheduleRows}
 use Rattle.cells.specs.promises.Views.{scheduleWidth}
 use Rattle.links.specs.promises.Links.{RowsLinked}
 use Rattle.supply.specs.Supply.{units}
+use Rattle.curves.proofs.PricedLaws.{priced-count}
 use Rattle.schedules.specs.Schedules.{schedulesAtOdds}
 use Rattle.schedules.specs.promises.Ranges.{Checked}
-use Rattle.checking.specs.promises.Alone.{constraintUnless, constraintChecked, supplyUnless, SupplyChecked, rowsUnless, SchedulesChecked}
+use Rattle.checking.specs.promises.Alone.{constraintUnless, constraintChecked, supplyUnless, SupplyChecked, SchedulesChecked}
 use Rattle.checking.specs.promises.Market.{MarketChecked}
-use Rattle.checking.specs.Files.{constraintOf, supplyOf, schedulesOf, aloneRefusals, marketRefusals, schedulesRefusals, besideRefusals}
-use Rattle.checking.specs.promises.Rules.{heldRefusals}
+use Rattle.checking.specs.Files.{constraintOf, supplyOf, schedulesOf, curvesOf, aloneRefusals, marketRefusals, schedulesRefusals, besideRefusals}
+use Rattle.checking.specs.promises.Curves.{pricedRows, RowsHeld}
+use Rattle.checking.specs.promises.Rules.{pricedRefusals, heldRefusals}
 use Rattle.checking.specs.declared.constraint_file.ConstraintCheck.{ConstraintCheck}
 use Rattle.checking.specs.declared.constraint_file.ConstraintCheck.the-variants.{Row, Refused as ConstraintRefused}
 use Rattle.checking.specs.declared.market.MarketCheck.the-variants.{Passed, Refused}
@@ -94,19 +96,17 @@ module _ (c s cells us : List ℕ) {q : ConstraintCheck} (checked : q ≡ constr
         }
 
 -- schedules beside a market
-module _ (h cells links : List ℕ) {q : Reading} (read : SchedulesChecked (aloneRefusals Schedules h) h cells links q) where
-  beside-parts :
-      (w : Option Refusal) (hour : ℕ) (us : List ℕ) →
-      besideRefusals (w ∷ []) hour us h ≡ aloneRefusals Schedules h ++ heldRefusals w hour us (schedulesOf h)
-  unfolding besideRefusals schedulesRefusals heldRefusals
-  beside-parts w hour us = append-assoc (aloneRefusals Schedules h) _ _
+module _ (h cells links : List ℕ) {q : Reading} (read : SchedulesChecked (aloneRefusals Schedules h) (schedulesOf h) cells links q) where
+  module _ (k : List ℕ) (w : Option Refusal) (hour : ℕ) (us : List ℕ) where
+    beside-parts : besideRefusals (w ∷ []) hour us h k ≡ aloneRefusals Schedules h ++ heldRefusals w hour us (schedulesOf h) k
+    unfolding besideRefusals schedulesRefusals heldRefusals pricedRefusals
+    beside-parts = append-assoc (aloneRefusals Schedules h) _ _
 
-  pub beside-unread :
-      (w : Option Refusal) (hour : ℕ) (us : List ℕ) {x : Refusal} → q ≡ NotRead x → SchedulesChecked (besideRefusals (w ∷ []) hour us h) h cells links (NotRead x)
-  beside-unread w hour us {x} e =
-      let alone = refused-answered (firstOf (aloneRefusals Schedules h)) _ (sym (read .answers) ∙ e) in
-      let first : firstOf (besideRefusals (w ∷ []) hour us h) ≡ some x = rw (beside-parts w hour us) (first-of-part (aloneRefusals Schedules h) _ x alone) in
-      record { answers = rw first; kept = λ z. some-none (sym first ∙ z) }
+    pub beside-unread : {x : Refusal} → q ≡ NotRead x → SchedulesChecked (besideRefusals (w ∷ []) hour us h k) (pricedRows h k) cells links (NotRead x)
+    beside-unread {x} e =
+        let alone = refused-answered (firstOf (aloneRefusals Schedules h)) _ (sym (read .answers) ∙ e) in
+        let first : firstOf (besideRefusals (w ∷ []) hour us h k) ≡ some x = rw beside-parts (first-of-part (aloneRefusals Schedules h) _ x alone) in
+        record { answers = rw first; kept = λ z. some-none (sym first ∙ z) }
 
   module _ (n : ℕ) (e : q ≡ RowsRead n) where
     passed : (firstOf (aloneRefusals Schedules h) ≡ none) × (n ≡ length (schedulesOf h))
@@ -119,7 +119,7 @@ module _ (h cells links : List ℕ) {q : Reading} (read : SchedulesChecked (alon
         (read-whole, option-map-none (refused 6 Schedules) (schedulesAtOdds (schedulesOf h)) (first-of-none _ [] later .0))
 
     rows-are : scheduleRows n cells ≡ schedulesOf h
-    rows-are = rw (passed .1) (read .kept (passed .0) .rows)
+    rows-are = rw (passed .1) (read .kept (passed .0) .laid)
 
     pub rows-linked : RowsLinked cells n links
     rows-linked = rw (passed .1) (read .kept (passed .0) .linked)
@@ -136,12 +136,18 @@ module _ (h cells links : List ℕ) {q : Reading} (read : SchedulesChecked (alon
         }
 
     pub beside-passed :
-        (w : Option Refusal) (hour : ℕ) (us : List ℕ) (a : Reading) →
-        a ≡ rowsUnless (firstOf (heldRefusals w hour us (scheduleRows n cells))) n →
-        SchedulesChecked (besideRefusals (w ∷ []) hour us h) h cells links a
-    beside-passed w hour us a held =
-        let first = first-of-rest (aloneRefusals Schedules h) (heldRefusals w hour us (schedulesOf h)) (passed .0) in
+        (k : List ℕ) (w : Option Refusal) (hour : ℕ) (us new : List ℕ) (a : Reading) → RowsHeld w hour us k n cells new links a →
+        SchedulesChecked (besideRefusals (w ∷ []) hour us h k) (pricedRows h k) new links a
+    beside-passed k w hour us new a held =
+        let first : firstOf (besideRefusals (w ∷ []) hour us h k) ≡ firstOf (heldRefusals w hour us (scheduleRows n cells) k) =
+        rw (beside-parts k w hour us, rows-are) (first-of-rest (aloneRefusals Schedules h) (heldRefusals w hour us (schedulesOf h) k) (passed .0)) in
+        let count : length (pricedRows h k) ≡ n = priced-count (curvesOf k) (schedulesOf h) ∙ sym (passed .1) in
         record {
-          answers = held ∙ rw (beside-parts w hour us, first, rows-are, passed .1);
-          kept = λ _. read .kept (passed .0);
+          answers = held .answers ∙ rw (first, count);
+          kept =
+              λ z.
+              record {
+                laid = rw count (held .by-curves (sym first ∙ z) ∙ rw rows-are);
+                linked = rw count (held .linked (sym first ∙ z));
+              };
         }

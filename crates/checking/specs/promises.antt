@@ -1,4 +1,5 @@
 pub mod Alone
+pub mod Curves
 pub mod Kept
 pub mod Market
 pub mod Parents

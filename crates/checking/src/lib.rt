@@ -2,6 +2,7 @@
 // schedules beside them; parents turn supply into groups. Assumes nothing of the bytes.
 mod answers;
 mod constraint_file;
+mod curves_file;
 mod lengths;
 mod market;
 mod parents_file;

@@ -19,6 +19,15 @@ pub const UNSCHEDULED: u64 = 8;
 // A schedule that lacks a needed hour.
 pub const LACKING: u64 = 9;
 
+// A point whose schedule hour is not in schedules.
+pub const STRAY_POINT: u64 = 32;
+
+// A point out of the order of its curve, or one too many.
+pub const DISORDERED: u64 = 33;
+
+// A curve that ends below ecomin.
+pub const ENDS_LOW: u64 = 34;
+
 // A supplier given two parents.
 pub const GIVEN_TWICE: u64 = 35;
 

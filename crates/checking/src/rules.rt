@@ -1,6 +1,8 @@
-// The rules that schedule rows keep beside a market: refusals 7, 8 and 9, and what comes between.
+// The rules that schedule rows keep beside a market: refusals 7, 8 and 9, and what comes between: those of
+// curves and of parents.
 // Assumes rows that refusals 1 to 6 have passed.
 ghost use mathlib.Core.Path.{_≡_};
+ghost use mathlib.Core.List.{_∷_};
 ghost use mathlib.Core.Option.{Option·map};
 ghost use Prim.Native.Nat.{_*_, _≤_};
 ghost use lib.ListN.{length, take};
@@ -13,9 +15,11 @@ ghost use Rattle.links.specs.promises.Links.{RowsLinked};
 ghost use Rattle.schedules.specs.promises.Ranges.{Checked};
 ghost use Rattle.checking.specs.promises.Alone.{rowsUnless};
 ghost use Rattle.checking.specs.Files.{unitsRefusals};
-ghost use Rattle.checking.specs.promises.Rules.{ruleNumber, atFault, refusalIn, heldRefusals};
+ghost use Rattle.checking.specs.promises.Rules.{ruleNumber, atFault, refusalIn};
+ghost use Rattle.checking.specs.promises.Curves.{RowsHeld, PricedHeld};
 use crate::answers::answer;
 use crate::answers::at_record;
+use crate::curves_file::check_curves;
 use crate::market::Market;
 use crate::refusals::LACKING;
 use crate::refusals::NOT_IN_SUPPLY;
@@ -31,9 +35,71 @@ pub enum Rule {
     Lacking,
 }
 
-// Holds n rows to the rules, in the order of their numbers; what reading parents answered has its turn
-// between 7 and 8.
+// Holds n rows to the rules, in the order of their numbers. Curves, and what reading parents answered,
+// have their turns between 7 and 8; the rows are left at the prices of their curves.
 pub fn hold(
+    market: Market,
+    parents: Reading,
+    curves: &[u8],
+    cells: &mut [u64],
+    n: usize,
+    links: &[u16],
+    units: &[u64],
+) -> Reading
+    requires { ⌜ n * scheduleWidth ≤ length (now cells) ⌝ }
+    requires { ⌜ RowsLinked (now cells) n (now links) ⌝ }
+    requires { ⌜ market .units ≤ length (now units) ⌝ }
+    requires { ⌜ Checked (market .constraint .hour) (scheduleRows n (now cells)) ⌝ }
+    ensures { λ r. ⌜ RowsHeld (refusalIn parents) (market .constraint .hour) (take (market .units) (now (units .entry))) (now (curves .entry)) n (now (cells .entry)) (now (cells .exit)) (now (links .entry)) r ⌝ }
+{
+    let known = hold_to(Rule::NotInSupply, market, cells, n, links, units);
+    match known {
+        Reading::Refused(refusal) => Reading::Refused(refusal),
+        Reading::Rows(_) => hold_priced(market, parents, curves, cells, n, links, units),
+    }
+}
+
+// Curves, then parents, then 8 and 9. Curves are checked by two calls, one for each way to go on: a
+// function with one call is compiled into its caller, and then the large array of points would lie in the
+// frame of every study, with curves or without.
+fn hold_priced(
+    market: Market,
+    parents: Reading,
+    curves: &[u8],
+    cells: &mut [u64],
+    n: usize,
+    links: &[u16],
+    units: &[u64],
+) -> Reading
+    requires { ⌜ n * scheduleWidth ≤ length (now cells) ⌝ }
+    requires { ⌜ RowsLinked (now cells) n (now links) ⌝ }
+    requires { ⌜ market .units ≤ length (now units) ⌝ }
+    requires { ⌜ Checked (market .constraint .hour) (scheduleRows n (now cells)) ⌝ }
+    ensures { λ r. ⌜ PricedHeld (refusalIn parents) (market .constraint .hour) (take (market .units) (now (units .entry))) (now (curves .entry)) n (now (cells .entry)) (now (cells .exit)) (now (links .entry)) r ⌝ }
+{
+    if curves.len() == 0 {
+        return hold_unpriced(market, parents, cells, n, links, units);
+    }
+    match parents {
+        Reading::Refused(waiting) => {
+            let points = check_curves(curves, cells, n, links);
+            match points {
+                Reading::Refused(sooner) => Reading::Refused(sooner),
+                Reading::Rows(_) => Reading::Refused(waiting),
+            }
+        }
+        Reading::Rows(_) => {
+            let points = check_curves(curves, cells, n, links);
+            match points {
+                Reading::Refused(refusal) => Reading::Refused(refusal),
+                Reading::Rows(_) => hold_units(market, cells, n, links, units),
+            }
+        }
+    }
+}
+
+// Parents, then 8 and 9, of rows that have no curves.
+fn hold_unpriced(
     market: Market,
     parents: Reading,
     cells: &[u64],
@@ -45,15 +111,11 @@ pub fn hold(
     requires { ⌜ RowsLinked (now cells) n (now links) ⌝ }
     requires { ⌜ market .units ≤ length (now units) ⌝ }
     requires { ⌜ Checked (market .constraint .hour) (scheduleRows n (now cells)) ⌝ }
-    ensures { λ r. ⌜ r ≡ rowsUnless (firstOf (heldRefusals (refusalIn parents) (market .constraint .hour) (take (market .units) (now (units .entry))) (scheduleRows n (now (cells .entry))))) n ⌝ }
+    ensures { λ r. ⌜ r ≡ rowsUnless (firstOf (refusalIn parents ∷ unitsRefusals (market .constraint .hour) (take (market .units) (now (units .entry))) (scheduleRows n (now (cells .entry))))) n ⌝ }
 {
-    let first = hold_to(Rule::NotInSupply, market, cells, n, links, units);
-    match first {
+    match parents {
         Reading::Refused(refusal) => Reading::Refused(refusal),
-        Reading::Rows(_) => match parents {
-            Reading::Refused(refusal) => Reading::Refused(refusal),
-            Reading::Rows(_) => hold_units(market, cells, n, links, units),
-        },
+        Reading::Rows(_) => hold_units(market, cells, n, links, units),
     }
 }
 

@@ -8,7 +8,8 @@ ghost use Rattle.tables.specs.declared.files.File.the-variants.{Schedules};
 ghost use Rattle.links.specs.promises.Links.{linksLength, Unlinked};
 ghost use Rattle.checking.specs.promises.Alone.{SchedulesChecked};
 ghost use Rattle.checking.specs.promises.Market.{MarketFits};
-ghost use Rattle.checking.specs.Files.{aloneRefusals, besideRefusals};
+ghost use Rattle.checking.specs.Files.{schedulesOf, aloneRefusals, besideRefusals};
+ghost use Rattle.checking.specs.promises.Curves.{pricedRows};
 ghost use Rattle.checking.specs.promises.Rules.{refusalIn};
 use crate::answers::answer;
 use crate::answers::at_record;
@@ -25,7 +26,7 @@ pub fn read_schedules(bytes: &[u8], cells: &mut [u64], links: &mut [u16]) -> Rea
     requires { ⌜ room Schedules ≤ length (now cells) ⌝ }
     requires { ⌜ linksLength ≤ length (now links) ⌝ }
     requires { ⌜ Unlinked (now links) ⌝ }
-    ensures { λ r. ⌜ SchedulesChecked (aloneRefusals Schedules (now (bytes .entry))) (now (bytes .entry)) (now (cells .exit)) (now (links .exit)) r ⌝ }
+    ensures { λ r. ⌜ SchedulesChecked (aloneRefusals Schedules (now (bytes .entry))) (schedulesOf (now (bytes .entry))) (now (cells .exit)) (now (links .exit)) r ⌝ }
 {
     let reading = onepass::read(File::Schedules, bytes, cells);
     match reading {
@@ -38,12 +39,13 @@ pub fn read_schedules(bytes: &[u8], cells: &mut [u64], links: &mut [u16]) -> Rea
     }
 }
 
-// Reads schedules, and holds its rows to the market too, whose units are listed. What reading parents
-// answered waits for its turn between 7 and 8.
+// Reads schedules, holds its rows to the market too, whose units are listed, and puts the prices of
+// curves into them. What reading parents answered waits for its turn between 7 and 8.
 pub fn check_schedules(
     market: Market,
     parents: Reading,
     schedules: &[u8],
+    curves: &[u8],
     units: &[u64],
     cells: &mut [u64],
     links: &mut [u16],
@@ -52,11 +54,11 @@ pub fn check_schedules(
     requires { ⌜ room Schedules ≤ length (now cells) ⌝ }
     requires { ⌜ linksLength ≤ length (now links) ⌝ }
     requires { ⌜ Unlinked (now links) ⌝ }
-    ensures { λ r. ⌜ SchedulesChecked (besideRefusals (refusalIn parents ∷ []) (market .constraint .hour) (take (market .units) (now (units .entry))) (now (schedules .entry))) (now (schedules .entry)) (now (cells .exit)) (now (links .exit)) r ⌝ }
+    ensures { λ r. ⌜ SchedulesChecked (besideRefusals (refusalIn parents ∷ []) (market .constraint .hour) (take (market .units) (now (units .entry))) (now (schedules .entry)) (now (curves .entry))) (pricedRows (now (schedules .entry)) (now (curves .entry))) (now (cells .exit)) (now (links .exit)) r ⌝ }
 {
     let reading = read_schedules(schedules, cells, links);
     match reading {
         Reading::Refused(refusal) => Reading::Refused(refusal),
-        Reading::Rows(n) => hold(market, parents, cells, n, links, units),
+        Reading::Rows(n) => hold(market, parents, curves, cells, n, links, units),
     }
 }

@@ -17,7 +17,8 @@ use Rattle.tables.specs.declared.files.Refusal.{Refusal}
 use Rattle.tables.specs.Refusals.{refused, bareRefusal, unless}
 use Rattle.cells.specs.promises.Views.{answerRows, answerWidth}
 use Rattle.supply.specs.Supply.{units}
-use Rattle.checking.specs.Files.{Files, constraintOf, supplyOf, schedulesOf, scheduledOf, groupsOf, marketRefusals, besideRefusals, checkRefusals, checkRefusal}
+use Rattle.checking.specs.Files.{Files, constraintOf, supplyOf, scheduledOf, groupsOf, marketRefusals, besideRefusals, checkRefusals, checkRefusal}
+use Rattle.checking.specs.promises.Curves.{pricedRows}
 use Rattle.base.proofs.FirstLaws.{first-of-one, first-of-here, first-of-later, first-of-part, first-of-rest}
 use Rattle.decision.specs.promises.Deciding.{DecidesRows}
 use Rattle.decision.specs.promises.Units.{UnitsOf}
@@ -142,19 +143,19 @@ module _ (day : Day) (c : ConstraintRow) (supply : List SupplyRow) (scheduled : 
 
 -- schedules, for a market that passed
 module _
-    (day : Day) (c : ConstraintRow) (supply : List SupplyRow) (waiting : Option Refusal) (h : List ℕ) (new : List ℕ) (r : Deciding)
+    (day : Day) (c : ConstraintRow) (supply : List SupplyRow) (waiting : Option Refusal) (h k new : List ℕ) (r : Deciding)
   where
     pub schedules-refused :
-        (e : Refusal) → firstOf (besideRefusals (waiting ∷ []) (c .hour) (units supply) h) ≡ some e → r ≡ Refused e →
-        DecidesMarket day c supply waiting h new r
+        (e : Refusal) → firstOf (besideRefusals (waiting ∷ []) (c .hour) (units supply) h k) ≡ some e → r ≡ Refused e →
+        DecidesMarket day c supply waiting h k new r
     schedules-refused e is g =
-        decides-refused _ _ _ _ new e r (first-of-part (besideRefusals (waiting ∷ []) (c .hour) (units supply) h) _ e is) g
+        decides-refused _ _ _ _ new e r (first-of-part (besideRefusals (waiting ∷ []) (c .hour) (units supply) h k) _ e is) g
 
     pub schedules-decided :
-        firstOf (besideRefusals (waiting ∷ []) (c .hour) (units supply) h) ≡ none → (rows : List ScheduleRow) → rows ≡ schedulesOf h →
-        DecidesFromRows day c supply rows new r → DecidesMarket day c supply waiting h new r
+        firstOf (besideRefusals (waiting ∷ []) (c .hour) (units supply) h k) ≡ none → (rows : List ScheduleRow) → rows ≡ pricedRows h k →
+        DecidesFromRows day c supply rows new r → DecidesMarket day c supply waiting h k new r
     schedules-decided ok rows is decides =
-        rw (first-of-rest (besideRefusals (waiting ∷ []) (c .hour) (units supply) h) (rowsRefusals (viewOf day) c supply (schedulesOf h)) ok)
+        rw (first-of-rest (besideRefusals (waiting ∷ []) (c .hour) (units supply) h k) (rowsRefusals (viewOf day) c supply (pricedRows h k)) ok)
         (rw is at decides)
 
 -- all files
@@ -173,7 +174,7 @@ module _ (day : Day) (f : Files) (new : List ℕ) (r : Deciding) where
 
     pub market-decided :
         firstOf (marketRefusals (f .constraint) (f .supply)) ≡ none → (c : ConstraintRow) → c ≡ constraintOf (f .constraint) →
-        (supply : List SupplyRow) → supply ≡ supplyOf (f .supply) → DecidesGroups day c supply (f .schedules) (f .parents) new r →
+        (supply : List SupplyRow) → supply ≡ supplyOf (f .supply) → DecidesGroups day c supply (f .schedules) (f .curves) (f .parents) new r →
         DecidesStudy day f new r
     unfolding decisionRefusal decisionRefusals checkRefusals studyRows scheduledOf groupsOf
     market-decided ok c constraint supply is decides =

@@ -28,7 +28,8 @@ use Rattle.affiliates.specs.promises.Laying.{SupplierCells}
 use Rattle.affiliates.proofs.GroupLaws.{grouped-units, grouped-permitted, groups-few}
 use Rattle.market.specs.Parties.{party, parties}
 use Rattle.checking.specs.promises.Alone.{rowsUnless}
-use Rattle.checking.specs.Files.{schedulesOf, parentsOf, aloneRefusals, schedulesRefusals, unitsRefusals, besideRefusals}
+use Rattle.checking.specs.Files.{schedulesOf, parentsOf, aloneRefusals, schedulesRefusals, curvesRefusals, unitsRefusals, besideRefusals}
+use Rattle.checking.specs.promises.Curves.{pricedRows}
 use Rattle.checking.specs.promises.Parents.{ParentsChecked}
 use Rattle.checking.specs.promises.Rules.{refusalIn}
 use Rattle.checking.proofs.KeptLaws.{parents-kept}
@@ -73,6 +74,11 @@ module _ (p : List ℕ) (k : ℕ) (rows : List SupplyRow) (run : List ℕ) where
       (λ (e : length p ≡ 0). omega (arith, listed .none-listed e))
       (λ (e : length p ≡ 0 → ⊥). omega (arith, listed .all-listed e .0))
       (eq-or-ne (length p) 0)
+
+-- the third of four parts, by those before it and those behind
+regrouped : {A : Type 0} (a b c d e : List A) → (a ++ (b ++ (c ++ d))) ++ e ≡ (a ++ b) ++ (c ++ (d ++ e))
+regrouped a b c d e =
+    rw (append-assoc a (b ++ (c ++ d)) e, append-assoc b (c ++ d) e, append-assoc c d e, append-assoc a b (c ++ (d ++ e)))
 
 module _ (p : List ℕ) (n : ℕ) (old new : List ℕ) {q : Reading} (checked : ParentsChecked p n old new q) where
   abbrev waiting : Option Refusal
@@ -124,47 +130,49 @@ module _ (p : List ℕ) (n : ℕ) (old new : List ℕ) {q : Reading} (checked : 
       }
 
   -- the same is refused
-  module _ (d : DayView) (c : ConstraintRow) (h : List ℕ) where
-    same-rows-refusals : rowsRefusals d c (supplyRows n new) (schedulesOf h) ≡ rowsRefusals d c (supplyRows n old) (schedulesOf h)
+  module _ (d : DayView) (c : ConstraintRow) (h k : List ℕ) where
+    same-rows-refusals : rowsRefusals d c (supplyRows n new) (pricedRows h k) ≡ rowsRefusals d c (supplyRows n old) (pricedRows h k)
     unfolding rowsRefusals noCostSchedule
     same-rows-refusals = rw same-units
 
     same-refusal :
-        firstOf (besideRefusals (refusalIn q ∷ []) (c .hour) (units (supplyRows n new)) h ++ rowsRefusals d c (supplyRows n new) (schedulesOf h))
-        ≡ firstOf (besideRefusals (aloneRefusals Parents p) (c .hour) (units (supplyRows n old)) h ++ rowsRefusals d c (supplyRows n old) (schedulesOf h))
+        firstOf (besideRefusals (refusalIn q ∷ []) (c .hour) (units (supplyRows n new)) h k ++ rowsRefusals d c (supplyRows n new) (pricedRows h k))
+        ≡ firstOf (besideRefusals (aloneRefusals Parents p) (c .hour) (units (supplyRows n old)) h k ++ rowsRefusals d c (supplyRows n old) (pricedRows h k))
     unfolding besideRefusals
     same-refusal =
         let us = units (supplyRows n old) in
+        let scheduled = schedulesRefusals us h in
+        let curved = curvesRefusals (schedulesOf h) k in
         let lacks = unitsRefusals (c .hour) us (schedulesOf h) in
-        let rest = rowsRefusals d c (supplyRows n old) (schedulesOf h) in
+        let rest = rowsRefusals d c (supplyRows n old) (pricedRows h k) in
         let asked : refusalIn q ≡ waiting = rw (checked .answers) (waits waiting (length (parentsOf p))) in
         rw (
           same-units,
           same-rows-refusals,
           asked,
-          append-assoc (schedulesRefusals us h) (waiting ∷ lacks) rest,
-          append-assoc (schedulesRefusals us h) (aloneRefusals Parents p ++ lacks) rest,
-          append-assoc (aloneRefusals Parents p) lacks rest,
+          regrouped scheduled curved (waiting ∷ []) lacks rest,
+          regrouped scheduled curved (aloneRefusals Parents p) lacks rest,
         )
-        (sym (first-of-between (schedulesRefusals us h) (aloneRefusals Parents p) (lacks ++ rest)))
+        (sym (first-of-between (scheduled ++ curved) (aloneRefusals Parents p) (lacks ++ rest)))
 
   -- where nothing is refused nothing waits, and the rows are those of the groups
-  module _ (d : DayView) (c : ConstraintRow) (h : List ℕ) where
+  module _ (d : DayView) (c : ConstraintRow) (h k : List ℕ) where
     none-waits :
-        firstOf (besideRefusals (aloneRefusals Parents p) (c .hour) (units (supplyRows n old)) h ++ rowsRefusals d c (supplyRows n old) (schedulesOf h))
+        firstOf (besideRefusals (aloneRefusals Parents p) (c .hour) (units (supplyRows n old)) h k ++ rowsRefusals d c (supplyRows n old) (pricedRows h k))
         ≡ none → waiting ≡ none
     unfolding besideRefusals
     none-waits e =
-        let beside = first-of-parts-none _ (rowsRefusals d c (supplyRows n old) (schedulesOf h)) e .0 in
+        let beside = first-of-parts-none _ (rowsRefusals d c (supplyRows n old) (pricedRows h k)) e .0 in
         let behind = first-of-parts-none (schedulesRefusals (units (supplyRows n old)) h) _ beside .1 in
-        first-of-parts-none (aloneRefusals Parents p) _ behind .0
+        let further = first-of-parts-none (curvesRefusals (schedulesOf h) k) _ behind .1 in
+        first-of-parts-none (aloneRefusals Parents p) _ further .0
 
   module _
-      (day : Day) (c : ConstraintRow) (h : List ℕ) (rows : List ℕ) (r : Deciding)
-      (decides : DecidesMarket day c (supplyRows n new) (refusalIn q) h rows r)
+      (day : Day) (c : ConstraintRow) (h k rows : List ℕ) (r : Deciding)
+      (decides : DecidesMarket day c (supplyRows n new) (refusalIn q) h k rows r)
     where
       abbrev decidedBy : List SupplyRow → List SupplyRow → List AnswerRow
-      decidedBy supply shown = decided c supply (schedulesOf h) (viewOf day .running) shown
+      decidedBy supply shown = decided c supply (pricedRows h k) (viewOf day .running) shown
 
       abbrev groups : List SupplyRow
       groups = grouped (parentsOf p) (supplyRows n old)
@@ -174,15 +182,15 @@ module _ (p : List ℕ) (n : ℕ) (old new : List ℕ) {q : Reading} (checked : 
           (shown : List ℕ) →
           ((j : ℕ) → supplyRows n new ≡ groups → answerRows j rows ≡ decidedBy (supplyRows n new) (supplyRows n new) → RowsReady (viewOf day .running) j rows →
           (answerRows j shown ≡ decidedBy groups (supplyRows n old)) × (length shown ≡ length rows)) →
-          DecidesGroups day c (supplyRows n old) h p shown r
+          DecidesGroups day c (supplyRows n old) h k p shown r
       unfolding decided
       by-shown shown stands =
           record {
-            refuses = λ e g. sym (same-refusal (viewOf day) c h) ∙ decides .refuses e g;
+            refuses = λ e g. sym (same-refusal (viewOf day) c h k) ∙ decides .refuses e g;
             decides = λ i j g.
                 let laid = decides .decides i j g in
-                let accepted = sym (same-refusal (viewOf day) c h) ∙ laid .accepted in
-                let by-groups = checked .by-groups (none-waits (viewOf day) c h accepted) in
+                let accepted = sym (same-refusal (viewOf day) c h k) ∙ laid .accepted in
+                let by-groups = checked .by-groups (none-waits (viewOf day) c h k accepted) in
                 let (is, long) = stands j by-groups (laid .laid) (laid .ready) in
                 record {
                   accepted = accepted;
@@ -198,52 +206,52 @@ module _ (p : List ℕ) (n : ℕ) (old new : List ℕ) {q : Reading} (checked : 
               RowsReady (viewOf day .running) j shown
           ready-too j is long by-groups was ready =
               let now-units : map shownUnit (answerRows j shown) ≡ units groups =
-              rw is (rows-units c groups (schedulesOf h) (viewOf day .running) (supplyRows n old) (units groups))
+              rw is (rows-units c groups (pricedRows h k) (viewOf day .running) (supplyRows n old) (units groups))
               in
               let were-units : map shownUnit (answerRows j rows) ≡ units groups =
-              rw (was, by-groups) (rows-units c groups (schedulesOf h) (viewOf day .running) groups (units groups))
+              rw (was, by-groups) (rows-units c groups (pricedRows h k) (viewOf day .running) groups (units groups))
               in
               record {
                 few = ready .few;
                 there = rw long (ready .there);
-                lettered = rw is (decided-lettered c groups (schedulesOf h) (viewOf day .running) (supplyRows n old));
+                lettered = rw is (decided-lettered c groups (pricedRows h k) (viewOf day .running) (supplyRows n old));
                 rising = rw now-units (rw were-units at (ready .rising));
                 fit = rw now-units (rw were-units at (ready .fit));
               }
 
       -- the rows as they are, where there are no parents
-      decided-alone : length p ≡ 0 → DecidesGroups day c (supplyRows n old) h p rows r
+      decided-alone : length p ≡ 0 → DecidesGroups day c (supplyRows n old) h k p rows r
       decided-alone empty =
           let own = no-groups p empty (supplyRows n old) in
           by-shown rows (λ j by-groups was ready. (was ∙ rw (by-groups, own), refl))
 
       -- the rows with the suppliers that were listed
-      module _ (k : ℕ) (us : List ℕ) (of-supply : UnitsOf k (supplyRows n old) us) (names shown : List ℕ) (long : length shown ≡ length rows) where
+      module _ (units-count : ℕ) (us : List ℕ) (of-supply : UnitsOf units-count (supplyRows n old) us) (names shown : List ℕ) (long : length shown ≡ length rows) where
         decided-named :
-            take k names ≡ map (supplierOf (supplyRows n old)) (units (supplyRows n old)) →
-            answerRows k shown ≡ allNamed (take k names) (answerRows k rows) → DecidesGroups day c (supplyRows n old) h p shown r
+            take units-count names ≡ map (supplierOf (supplyRows n old)) (units (supplyRows n old)) →
+            answerRows units-count shown ≡ allNamed (take units-count names) (answerRows units-count rows) → DecidesGroups day c (supplyRows n old) h k p shown r
         unfolding decided
         decided-named listed are =
             by-shown shown
             (λ j by-groups was ready.
-            let count : j ≡ k =
+            let count : j ≡ units-count =
             omega (
               arith,
               answer-length j rows,
               ap length was,
-              length-map (units (supplyRows n new)) (decidedRow c (supplyRows n new) (schedulesOf h) (viewOf day .running) (supplyRows n new)),
+              length-map (units (supplyRows n new)) (decidedRow c (supplyRows n new) (pricedRows h k) (viewOf day .running) (supplyRows n new)),
               ap length same-units,
               of-supply .counted,
             )
             in (
               rw (count, are, listed, ← count, was, same-units, by-groups, grouped-units (parentsOf p) (supplyRows n old))
-                  (named-rows c groups (schedulesOf h) (viewOf day .running) (supplyRows n old) (units (supplyRows n old))),
+                  (named-rows c groups (pricedRows h k) (viewOf day .running) (supplyRows n old) (units (supplyRows n old))),
               long,
             ))
 
         pub groups-decided :
-            (count : ℕ) → ShownListed p k (supplyRows n old) names count → RowsNamed names count rows shown →
-            DecidesGroups day c (supplyRows n old) h p shown r
+            (count : ℕ) → ShownListed p units-count (supplyRows n old) names count → RowsNamed names count rows shown →
+            DecidesGroups day c (supplyRows n old) h k p shown r
         groups-decided count listed are =
             ⊎-elim
             (λ (empty : length p ≡ 0). rw (are .none (listed .none-listed empty)) (decided-alone empty))

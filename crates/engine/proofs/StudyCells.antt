@@ -8,7 +8,7 @@ use lib.ListN.{length}
 use Rattle.base.specs.Search.{firstOf}
 use Rattle.base.proofs.Elements.{all-mem}
 use Rattle.tables.specs.Rows.{SupplyRow}
-use Rattle.tables.specs.declared.files.File.the-variants.{Supply, Schedules}
+use Rattle.tables.specs.declared.files.File.the-variants.{Supply, Schedules, Curves}
 use Rattle.tables.specs.declared.files.Reading.{Reading}
 use Rattle.tables.specs.declared.files.Reading.the-variants.{Rows as RowsRead, Refused as NotRead}
 use Rattle.tables.specs.declared.files.Refusal.{Refusal}
@@ -18,16 +18,19 @@ use Rattle.supply.proofs.UnitLaws.{units-rising}
 use Rattle.market.specs.Parties.{party, parties}
 use Rattle.checking.specs.promises.Alone.{SchedulesChecked}
 use Rattle.checking.specs.promises.Market.{MarketChecked}
-use Rattle.checking.specs.Files.{constraintOf, supplyOf, schedulesOf, aloneRefusals, marketRefusals, schedulesRefusals, besideRefusals}
+use Rattle.checking.specs.Files.{constraintOf, supplyOf, schedulesOf, orHeader, curvesOf, aloneRefusals, marketRefusals, schedulesRefusals, curvesRefusals, besideRefusals}
+use Rattle.checking.specs.promises.Curves.{pricedRows}
+use Rattle.curves.proofs.PricedLaws.{priced-count, priced-permitted}
 use Rattle.checking.specs.declared.market.Market.{Market}
 use Rattle.checking.specs.declared.market.MarketCheck.{MarketCheck}
 use Rattle.checking.specs.declared.market.MarketCheck.the-variants.{Passed}
 use Rattle.checking.proofs.MarketLaws.{told, market-kept}
 use Rattle.checking.proofs.RuleLaws.{rows-answered, refused-answered}
 use Rattle.base.proofs.Searches.{first-of-none}
-use Rattle.tables.specs.Reading.{refusal}
+use Rattle.base.proofs.FirstLaws.{first-of-parts-none}
+use Rattle.tables.specs.Reading.{rows, refusal}
 use Rattle.checking.proofs.FilesLaws.{supply-count, schedules-count}
-use Rattle.checking.proofs.KeptLaws.{constraint-kept, supply-kept, schedules-kept, units-few, suppliers-few}
+use Rattle.checking.proofs.KeptLaws.{constraint-kept, supply-kept, schedules-kept, curves-kept, units-few, suppliers-few}
 use Rattle.tables.proofs.Accepted.{accepted}
 use Rattle.tables.specs.promises.FlatRows.{supplyRows, scheduleRows}
 use Rattle.outcome.proofs.Sound.{some-units}
@@ -79,34 +82,40 @@ module _ (c s supply us : List ℕ) {q : MarketCheck} (checked : MarketChecked c
         rising = units-rising (some-units (supply-kept s (read .1)));
       })
 
--- the cells of schedules that passed
+-- the cells of schedules that passed, with curves
 module _
-    (w : Option Refusal) (hour : ℕ) (us h cells links : List ℕ) {p : Reading}
-    (checked : SchedulesChecked (besideRefusals (w ∷ []) hour us h) h cells links p)
+    (w : Option Refusal) (hour : ℕ) (us h k cells links : List ℕ) {p : Reading}
+    (checked : SchedulesChecked (besideRefusals (w ∷ []) hour us h k) (pricedRows h k) cells links p)
   where
-    pub schedules-refuse : (x : Refusal) → p ≡ NotRead x → firstOf (besideRefusals (w ∷ []) hour us h) ≡ some x
-    schedules-refuse x f = refused-answered _ (length (schedulesOf h)) (sym (checked .answers) ∙ f)
+    pub schedules-refuse : (x : Refusal) → p ≡ NotRead x → firstOf (besideRefusals (w ∷ []) hour us h k) ≡ some x
+    schedules-refuse x f = refused-answered _ (length (pricedRows h k)) (sym (checked .answers) ∙ f)
 
     module _ (n : ℕ) (f : p ≡ RowsRead n) where
-      rows-told : (firstOf (besideRefusals (w ∷ []) hour us h) ≡ none) × (n ≡ length (schedulesOf h))
-      rows-told = rows-answered _ (length (schedulesOf h)) (sym (checked .answers) ∙ f)
+      rows-told : (firstOf (besideRefusals (w ∷ []) hour us h k) ≡ none) × (n ≡ length (pricedRows h k))
+      rows-told = rows-answered _ (length (pricedRows h k)) (sym (checked .answers) ∙ f)
 
-      pub schedules-none : firstOf (besideRefusals (w ∷ []) hour us h) ≡ none
+      pub schedules-none : firstOf (besideRefusals (w ∷ []) hour us h k) ≡ none
       schedules-none = rows-told .0
 
-      pub schedules-rows : scheduleRows n cells ≡ schedulesOf h
-      schedules-rows = rw (rows-told .1) (checked .kept schedules-none .rows)
+      pub schedules-rows : scheduleRows n cells ≡ pricedRows h k
+      schedules-rows = rw (rows-told .1) (checked .kept schedules-none .laid)
 
       pub schedules-linked : RowsLinked cells n links
       schedules-linked = rw (rows-told .1) (checked .kept schedules-none .linked)
 
+      read : (refusal Schedules h ≡ none) × (refusal Curves (orHeader Curves k) ≡ none)
+      unfolding besideRefusals schedulesRefusals curvesRefusals aloneRefusals
+      read =
+          let (of-schedules, behind) = first-of-parts-none (schedulesRefusals us h) _ schedules-none in
+          let (of-curves, _) = first-of-parts-none (curvesRefusals (schedulesOf h) k) _ behind in
+          (first-of-none (refusal Schedules h) _ of-schedules .0, first-of-none (refusal Curves (orHeader Curves k)) _ of-curves .0)
+
       pub schedules-cells : 9216 ≤ length cells → ScheduleCells n cells
-      unfolding besideRefusals schedulesRefusals aloneRefusals
       schedules-cells room =
-          let read = first-of-none (refusal Schedules h) _ schedules-none .0 in
-          let few : n ≤ 1024 = rw (rows-told .1, schedules-count h) (accepted Schedules h read .most) in
+          let count : n ≡ length (rows h) = rows-told .1 ∙ priced-count (curvesOf k) (schedulesOf h) ∙ schedules-count h in
+          let few : n ≤ 1024 = rw count (accepted Schedules h (read .0) .most) in
           record {
             few = few;
             room = omega arith;
-            ranged = λ r i. all-mem (schedules-kept h read) (rw schedules-rows at i);
+            ranged = λ r i. all-mem (priced-permitted (curves-kept k (read .1)) (schedules-kept h (read .0))) (rw schedules-rows at i);
           }

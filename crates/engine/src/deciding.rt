@@ -56,14 +56,15 @@ impl Day {
         constraint: &[u8],
         supply: &[u8],
         schedules: &[u8],
+        curves: &[u8],
         parents: &[u8],
         rows: &mut [u64],
     ) -> Deciding
         requires { ⌜ mostUnits * answerWidth ≤ length (now rows) ⌝ }
-        ensures { λ r. ⌜ DecidesStudy self (files (now (constraint .entry)) (now (supply .entry)) (now (schedules .entry)) (now (parents .entry))) (now (rows .exit)) r ⌝ }
+        ensures { λ r. ⌜ DecidesStudy self (files (now (constraint .entry)) (now (supply .entry)) (now (schedules .entry)) (now (curves .entry)) (now (parents .entry))) (now (rows .exit)) r ⌝ }
     {
         if self.is_formed() {
-            self.decide_files(constraint, supply, schedules, parents, rows)
+            self.decide_files(constraint, supply, schedules, curves, parents, rows)
         } else {
             refused_by_state(ILL_FORMED)
         }
@@ -75,12 +76,13 @@ impl Day {
         constraint: &[u8],
         supply: &[u8],
         schedules: &[u8],
+        curves: &[u8],
         parents: &[u8],
         rows: &mut [u64],
     ) -> Deciding
         requires { ⌜ dayFormed (viewOf self) ≡ true ⌝ }
         requires { ⌜ mostUnits * answerWidth ≤ length (now rows) ⌝ }
-        ensures { λ r. ⌜ DecidesStudy self (files (now (constraint .entry)) (now (supply .entry)) (now (schedules .entry)) (now (parents .entry))) (now (rows .exit)) r ⌝ }
+        ensures { λ r. ⌜ DecidesStudy self (files (now (constraint .entry)) (now (supply .entry)) (now (schedules .entry)) (now (curves .entry)) (now (parents .entry))) (now (rows .exit)) r ⌝ }
     {
         let mut supply_cells = [0u64; SUPPLY_CELLS];
         let mut units = [0u64; UNITS_LENGTH];
@@ -88,7 +90,15 @@ impl Day {
         match check {
             MarketCheck::Refused(refusal) => Deciding::Refused(refusal),
             MarketCheck::Passed(market) => {
-                self.decide_groups(market, &mut supply_cells, &units, schedules, parents, rows)
+                self.decide_groups(
+                    market,
+                    &mut supply_cells,
+                    &units,
+                    schedules,
+                    curves,
+                    parents,
+                    rows,
+                )
             }
         }
     }
@@ -101,6 +111,7 @@ impl Day {
         supply: &mut [u64],
         units: &[u64],
         schedules: &[u8],
+        curves: &[u8],
         parents: &[u8],
         rows: &mut [u64],
     ) -> Deciding
@@ -108,18 +119,18 @@ impl Day {
         requires { ⌜ MarketCells (market .constraint) (market .rows) (now supply) ⌝ }
         requires { ⌜ UnitsOf (market .units) (supplyRows (market .rows) (now supply)) (now units) ⌝ }
         requires { ⌜ mostUnits * answerWidth ≤ length (now rows) ⌝ }
-        ensures { λ r. ⌜ DecidesGroups self (market .constraint) (supplyRows (market .rows) (now (supply .entry))) (now (schedules .entry)) (now (parents .entry)) (now (rows .exit)) r ⌝ }
+        ensures { λ r. ⌜ DecidesGroups self (market .constraint) (supplyRows (market .rows) (now (supply .entry))) (now (schedules .entry)) (now (curves .entry)) (now (parents .entry)) (now (rows .exit)) r ⌝ }
     {
         let mut suppliers = [0u64; UNITS_LENGTH];
         let count = list_shown(parents, market, supply, units, &mut suppliers);
         let reading = check_parents(parents, supply, market.rows);
-        let deciding = self.decide_market(market, reading, supply, units, schedules, rows);
+        let deciding = self.decide_market(market, reading, supply, units, schedules, curves, rows);
         name_suppliers(&suppliers, count, rows);
         deciding
     }
 
-    // Then schedules, for the hour and the units of a market that passed. What reading parents answered
-    // waits for its turn.
+    // Then schedules and curves, for the hour and the units of a market that passed. What reading parents
+    // answered waits for its turn.
     fn decide_market(
         self,
         market: Market,
@@ -127,17 +138,26 @@ impl Day {
         supply: &[u64],
         units: &[u64],
         schedules: &[u8],
+        curves: &[u8],
         rows: &mut [u64],
     ) -> Deciding
         requires { ⌜ unitsFormed (unitsOf (self .units)) ≡ true ⌝ }
         requires { ⌜ MarketCells (market .constraint) (market .rows) (now supply) ⌝ }
         requires { ⌜ UnitsOf (market .units) (supplyRows (market .rows) (now supply)) (now units) ⌝ }
         requires { ⌜ mostUnits * answerWidth ≤ length (now rows) ⌝ }
-        ensures { λ r. ⌜ DecidesMarket self (market .constraint) (supplyRows (market .rows) (now (supply .entry))) (refusalIn parents) (now (schedules .entry)) (now (rows .exit)) r ⌝ }
+        ensures { λ r. ⌜ DecidesMarket self (market .constraint) (supplyRows (market .rows) (now (supply .entry))) (refusalIn parents) (now (schedules .entry)) (now (curves .entry)) (now (rows .exit)) r ⌝ }
     {
         let mut cells = [0u64; SCHEDULE_CELLS];
         let mut links = [0u16; links::LENGTH];
-        let reading = check_schedules(market, parents, schedules, units, &mut cells, &mut links);
+        let reading = check_schedules(
+            market,
+            parents,
+            schedules,
+            curves,
+            units,
+            &mut cells,
+            &mut links,
+        );
         match reading {
             Reading::Refused(refusal) => Deciding::Refused(refusal),
             Reading::Rows(count) => {

@@ -31,20 +31,22 @@ pub struct Previewed {
 }
 
 impl Day {
-    // Shows the row that a study of the files would write for the unit. Parents of no bytes are none.
+    // Shows the row that a study of the files would write for the unit. Curves or parents of no bytes are
+    // none.
     pub fn preview(
         self,
         constraint: &[u8],
         supply: &[u8],
         schedules: &[u8],
+        curves: &[u8],
         parents: &[u8],
         unit: u64,
     ) -> Previewed
-        ensures { λ r. ⌜ Previews self (files (now (constraint .entry)) (now (supply .entry)) (now (schedules .entry)) (now (parents .entry))) unit r ⌝ }
-        ensures { λ r. ⌜ PreviewsRight self (files (now (constraint .entry)) (now (supply .entry)) (now (schedules .entry)) (now (parents .entry))) unit r ⌝ }
+        ensures { λ r. ⌜ Previews self (files (now (constraint .entry)) (now (supply .entry)) (now (schedules .entry)) (now (curves .entry)) (now (parents .entry))) unit r ⌝ }
+        ensures { λ r. ⌜ PreviewsRight self (files (now (constraint .entry)) (now (supply .entry)) (now (schedules .entry)) (now (curves .entry)) (now (parents .entry))) unit r ⌝ }
     {
         let mut rows = [0u64; answer::CELLS];
-        let deciding = self.decide(constraint, supply, schedules, parents, &mut rows);
+        let deciding = self.decide(constraint, supply, schedules, curves, parents, &mut rows);
         match deciding {
             Deciding::Refused(refusal) => self.looked_at(Preview::Refused(refusal)),
             Deciding::Rows(_, count) => self.looked_at(row_for(unit, &rows, count)),

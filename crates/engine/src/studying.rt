@@ -30,21 +30,22 @@ pub struct Studied {
 }
 
 impl Day {
-    // Studies the files, and writes the answer file from the start of the buffer. Parents of no bytes are
-    // none.
+    // Studies the files, and writes the answer file from the start of the buffer. Curves or parents of no
+    // bytes are none.
     pub fn study(
         self,
         constraint: &[u8],
         supply: &[u8],
         schedules: &[u8],
+        curves: &[u8],
         parents: &[u8],
         answer: &mut [u8],
     ) -> Studied
-        ensures { λ r. ⌜ Studies self (files (now (constraint .entry)) (now (supply .entry)) (now (schedules .entry)) (now (parents .entry))) (now (answer .entry)) (now (answer .exit)) r ⌝ }
-        ensures { λ r. ⌜ AnswersRight self (files (now (constraint .entry)) (now (supply .entry)) (now (schedules .entry)) (now (parents .entry))) (now (answer .exit)) r ⌝ }
+        ensures { λ r. ⌜ Studies self (files (now (constraint .entry)) (now (supply .entry)) (now (schedules .entry)) (now (curves .entry)) (now (parents .entry))) (now (answer .entry)) (now (answer .exit)) r ⌝ }
+        ensures { λ r. ⌜ AnswersRight self (files (now (constraint .entry)) (now (supply .entry)) (now (schedules .entry)) (now (curves .entry)) (now (parents .entry))) (now (answer .exit)) r ⌝ }
     {
         let mut rows = [0u64; answer::CELLS];
-        let deciding = self.decide(constraint, supply, schedules, parents, &mut rows);
+        let deciding = self.decide(constraint, supply, schedules, curves, parents, &mut rows);
         match deciding {
             Deciding::Refused(refusal) => self.refuse_study(refusal),
             Deciding::Rows(hour, count) => self.answer_rows(hour, &rows, count, answer),

@@ -14,9 +14,9 @@ use Rattle.csv.specs.Grammar.{Record}
 use Rattle.csv.specs.promises.Plain.{allText, allTexts}
 use Rattle.csv.proofs.Written.{inQuotes, quoted-field, sideBySide, fields-record}
 use Rattle.csv.specs.Bytes.{CR, DQUOTE, LF}
-use Rattle.tables.specs.Table.{header, joined, headerText, constraintColumns, supplyColumns, schedulesColumns, parentsColumns}
+use Rattle.tables.specs.Table.{header, joined, headerText, constraintColumns, supplyColumns, schedulesColumns, curvesColumns, parentsColumns}
 use Rattle.tables.specs.declared.files.File.{File}
-use Rattle.tables.specs.declared.files.File.the-variants.{Constraint, Supply, Schedules, Parents}
+use Rattle.tables.specs.declared.files.File.the-variants.{Constraint, Supply, Schedules, Curves, Parents}
 use Rattle.tables.proofs.Written.{plain-header}
 use Rattle.onepass.specs.promises.Walk.{Begins, HeaderFound, TextAt, quotedByte, quotedBytes, quotedText}
 
@@ -109,10 +109,11 @@ begins-second s a b r t = ⊎-elim there gone (lt-or-ge 0 r)
 
 -- a header in quotes is a record of the columns' names
 quoted-header : (f : File) (r : List ℕ) → Record (quotedText (headerText f) ++ r) (header f) (CR ∷ LF ∷ r)
-unfolding quotedText quotedBytes quotedByte headerText joined header constraintColumns supplyColumns schedulesColumns parentsColumns sideBySide inQuotes allTexts allText
+unfolding quotedText quotedBytes quotedByte headerText joined header constraintColumns supplyColumns schedulesColumns curvesColumns parentsColumns sideBySide inQuotes allTexts allText
 quoted-header Constraint r = fields-record inQuotes quoted-field _ _ _ refl
 quoted-header Supply r = fields-record inQuotes quoted-field _ _ _ refl
 quoted-header Schedules r = fields-record inQuotes quoted-field _ _ _ refl
+quoted-header Curves r = fields-record inQuotes quoted-field _ _ _ refl
 quoted-header Parents r = fields-record inQuotes quoted-field _ _ _ refl
 
 module _ (f : File) (s : List ℕ) where

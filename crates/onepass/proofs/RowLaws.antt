@@ -16,11 +16,11 @@ use Rattle.base.proofs.Lists.{drop-next, drop-end, drop-back, rest-lent, rest-b
 use Rattle.csv.specs.Grammar.{Field, Record}
 use Rattle.csv.specs.promises.Rows.{Breaks, at-end, crlf, Rows}
 use Rattle.csv.specs.Bytes.{COMMA, CR, LF}
-use Rattle.tables.specs.Table.{Form, numeral, signed, letter, Column, column, constraintColumns, supplyColumns, schedulesColumns, parentsColumns, table, width}
+use Rattle.tables.specs.Table.{Form, numeral, signed, letter, Column, column, constraintColumns, supplyColumns, schedulesColumns, curvesColumns, parentsColumns, table, width}
 use Rattle.tables.specs.Values.{value, inForm}
 use Rattle.tables.specs.promises.Laying.{room}
 use Rattle.tables.specs.declared.files.File.{File}
-use Rattle.tables.specs.declared.files.File.the-variants.{Constraint, Supply, Schedules, Parents}
+use Rattle.tables.specs.declared.files.File.the-variants.{Constraint, Supply, Schedules, Curves, Parents}
 use Rattle.tables.proofs.ColumnLaws.{formNumber, form-at, minimum-at, maximum-at, minimum-small, maximum-small}
 use Rattle.tables.specs.promises.Columns.{allColumns, columnCount, firstColumn, columnAt}
 use Rattle.tables.specs.promises.RowCells.{CellsOf, RowsOf}
@@ -74,7 +74,7 @@ module _ (fs ls ms : List ℕ) (t : Ranges fs ls ms) (i : ℕ) where
   range-fits = rw (t .minima, t .maxima) (omega (arith, minimum-small i, maximum-small i))
 
   pub range-lengths : (length fs ≡ columnCount) × (length ls ≡ columnCount) × (length ms ≡ columnCount)
-  unfolding allColumns constraintColumns supplyColumns schedulesColumns parentsColumns
+  unfolding allColumns constraintColumns supplyColumns schedulesColumns curvesColumns parentsColumns
   range-lengths = (ap length (t .forms), ap length (t .minima), ap length (t .maxima))
 
   range-value : (v : List ℕ) → inForm (formOf (getD fs i 0)) (getD ls i 0) (getD ms i 0) v ≡ value (columnAt i) v
@@ -120,7 +120,7 @@ pub columnsFrom : ℕ → List Column
 columnsFrom first = drop first allColumns
 
 columns-length : (first : ℕ) → length (columnsFrom first) ≡ columnCount - first
-unfolding columnsFrom allColumns constraintColumns supplyColumns schedulesColumns parentsColumns
+unfolding columnsFrom allColumns constraintColumns supplyColumns schedulesColumns curvesColumns parentsColumns
 columns-length first = length-drop first allColumns
 
 next-column :
@@ -149,17 +149,19 @@ pub record LayingTo (s : List ℕ) (first n : ℕ) (old new rest : List ℕ) (c 
   pub kept : drop c new ≡ drop c old
 
 file-columns : (f : File) → (1 ≤ width f) × (firstColumn f + width f ≤ columnCount)
-unfolding width constraintColumns supplyColumns schedulesColumns parentsColumns
+unfolding width constraintColumns supplyColumns schedulesColumns curvesColumns parentsColumns
 file-columns Constraint = (omega arith, omega arith)
 file-columns Supply = (omega arith, omega arith)
 file-columns Schedules = (omega arith, omega arith)
+file-columns Curves = (omega arith, omega arith)
 file-columns Parents = (omega arith, omega arith)
 
 whole-columns : (f : File) → take (width f) (columnsFrom (firstColumn f)) ≡ table f .columns
-unfolding columnsFrom width allColumns constraintColumns supplyColumns schedulesColumns parentsColumns
+unfolding columnsFrom width allColumns constraintColumns supplyColumns schedulesColumns curvesColumns parentsColumns
 whole-columns Constraint = refl
 whole-columns Supply = refl
 whole-columns Schedules = refl
+whole-columns Curves = refl
 whole-columns Parents = refl
 
 pub laying-none :
@@ -265,10 +267,11 @@ rows-of-more {cs = cs} {v = v} {x = x} RowsOf.none w =
 rows-of-more {x = x} (RowsOf.more {x = y} {xs = ys} u l) w =
     rw (append-assoc y ys x) (RowsOf.more u (rows-of-more l w))
 
-pub most-small : (f : File) → table f .mostRows ≤ 1024
+pub most-small : (f : File) → table f .mostRows ≤ 4096
 most-small Constraint = omega arith
 most-small Supply = omega arith
 most-small Schedules = omega arith
+most-small Curves = omega arith
 most-small Parents = omega arith
 
 -- k rows are laid down as far as `at`, and the rest that follows them

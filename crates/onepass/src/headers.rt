@@ -8,6 +8,7 @@ use crate::fields::DQUOTE;
 use crate::rows::COMMA;
 use crate::rows::CR;
 use tables::CONSTRAINT_HEADER;
+use tables::CURVES_HEADER;
 use tables::File;
 use tables::PARENTS_HEADER;
 use tables::SCHEDULES_HEADER;
@@ -21,6 +22,7 @@ pub fn header_end(file: File, s: &[u8]) -> usize
         File::Constraint => either_end(s, &CONSTRAINT_HEADER),
         File::Supply => either_end(s, &SUPPLY_HEADER),
         File::Schedules => either_end(s, &SCHEDULES_HEADER),
+        File::Curves => either_end(s, &CURVES_HEADER),
         File::Parents => either_end(s, &PARENTS_HEADER),
     }
 }

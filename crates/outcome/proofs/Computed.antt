@@ -37,6 +37,7 @@ withoutCost =
     (bytes
     "unit,schedule,kind,hour,ecomin,price,noload,startup,minrun\r\n11,1,M,5,100,4000,50000,20000,1\r\n11,2,C,5,100,3000,50000,20000,1\r\n12,1,M,5,100,3300,0,0,1\r\n12,2,C,5,100,3000,0,0,1\r\n13,1,C,5,200,4000,0,1000,1\r\n14,1,M,5,100,5000,0,0,1\r\n")
     []
+    []
 
 abbrev atHour : ℕ → DayView
 atHour h = record { hour = some h; running = [] }
@@ -54,13 +55,13 @@ abbrev crowd : DayView
 crowd = record { hour = none; running = from 101 61 }
 
 pub previews :
-    (previewed freshDay (exampleWith []) 14 ≡ shows (unit14 5000000 1 M 500000))
-    × (previewed onCost (exampleWith []) 14 ≡ shows (unit14 5000000 2 C 220000))
-    × (previewed freshDay (exampleWith parentsFile) 14 ≡ shows (unit14 0 1 M 500000))
-    × (previewed freshDay (exampleWith []) 15 ≡ refuses (bareRefusal 31))
-    × (previewed (atHour 24) (exampleWith []) 15 ≡ refuses (bareRefusal 24))
-    × (previewed (atHour 6) (exampleWith []) 15 ≡ refuses (bareRefusal 20))
+    (previewed freshDay (exampleWith [] []) 14 ≡ shows (unit14 5000000 1 M 500000))
+    × (previewed onCost (exampleWith [] []) 14 ≡ shows (unit14 5000000 2 C 220000))
+    × (previewed freshDay (exampleWith [] parentsFile) 14 ≡ shows (unit14 0 1 M 500000))
+    × (previewed freshDay (exampleWith [] []) 15 ≡ refuses (bareRefusal 31))
+    × (previewed (atHour 24) (exampleWith [] []) 15 ≡ refuses (bareRefusal 24))
+    × (previewed (atHour 6) (exampleWith [] []) 15 ≡ refuses (bareRefusal 20))
     × (previewed onCost withoutCost 11 ≡ refuses (refused 21 Schedules 14))
-    × (previewed crowd (exampleWith []) 15 ≡ refuses (bareRefusal 22))
+    × (previewed crowd (exampleWith [] []) 15 ≡ refuses (bareRefusal 22))
 unfolding engine·all preview·all
 previews = (refl, refl, refl, refl, refl, refl, refl, refl)

@@ -7,6 +7,7 @@ pub mod DayRelease
 pub mod Demand3
 pub mod ExposedRight
 pub mod LayoutLaws
+pub mod NoCurves
 pub mod NoParents
 pub mod Numbered
 pub mod OneMarket

@@ -15,10 +15,10 @@ use Rattle.base.proofs.Tests.{false-true}
 use Rattle.tables.specs.Reading.{rows, misfit, miscount, malformed, irregular, misshapen, refusal}
 use Rattle.tables.specs.Refusals.{refused, bareRefusal, unless, told}
 use Rattle.tables.specs.declared.files.File.{File}
-use Rattle.tables.specs.declared.files.File.the-variants.{Constraint, Supply, Schedules, Parents}
+use Rattle.tables.specs.declared.files.File.the-variants.{Constraint, Supply, Schedules, Curves, Parents}
 use Rattle.tables.specs.declared.files.Refusal.{Refusal}
 use Rattle.tables.specs.declared.answer.AnswerRow.{AnswerRow}
-use Rattle.checking.specs.Files.{Files, affiliateRefusals, aloneRefusals, marketRefusals, schedulesRefusals, unitsRefusals, besideRefusals, checkRefusals, constraintOf, supplyOf, schedulesOf, scheduledOf, parentsOf, orHeader}
+use Rattle.checking.specs.Files.{Files, pointRefusals, affiliateRefusals, aloneRefusals, marketRefusals, schedulesRefusals, curvesRefusals, unitsRefusals, besideRefusals, checkRefusals, constraintOf, supplyOf, schedulesOf, curvesOf, scheduledOf, parentsOf, orHeader}
 use Rattle.outcome.specs.Day.{DayView, dayFormed, runs, releaseRefusal, earlier, wouldRun, mostRunning}
 use Rattle.outcome.specs.Study.{outcome, tooManyRunning, shortBuffer, rowsRefusals, decisionRefusals, decisionRefusal, studyRefusals, studyRefusal, studied, studyRows}
 use Rattle.outcome.specs.Decision.{ofUnit, noCostSchedule}
@@ -29,6 +29,7 @@ use Rattle.supply.specs.Supply.{units, overLimit, supplyAtOdds}
 use Rattle.schedules.specs.Schedules.{schedulesAtOdds, notInSupply, unscheduled}
 use Rattle.schedules.specs.Runs.{lacking}
 use Rattle.affiliates.specs.Affiliates.{givenTwice, ringed}
+use Rattle.curves.specs.Curves.{strayPoint, disordered, endsLow}
 
 -- nothing is refused, or the refusal has one of some numbers
 data Numbered (ns : List ℕ) : Option Refusal → Type 0 where
@@ -71,7 +72,7 @@ not-numbered n other (numbered x h) r e same =
 
 -- the numbers of all refusals of a study but for that of a short buffer, which is 10
 abbrev decisionNumbers : List ℕ
-decisionNumbers = 24 ∷ 1 ∷ 2 ∷ 4 ∷ 3 ∷ 5 ∷ 6 ∷ 7 ∷ 35 ∷ 36 ∷ 8 ∷ 9 ∷ 20 ∷ 21 ∷ 22 ∷ []
+decisionNumbers = 24 ∷ 1 ∷ 2 ∷ 4 ∷ 3 ∷ 5 ∷ 6 ∷ 7 ∷ 32 ∷ 33 ∷ 34 ∷ 35 ∷ 36 ∷ 8 ∷ 9 ∷ 20 ∷ 21 ∷ 22 ∷ []
 
 shape-numbered : (f : File) (s : List ℕ) → Numbered decisionNumbers (misshapen f s)
 unfolding misshapen among
@@ -96,16 +97,18 @@ alone-numbered Supply s =
 alone-numbered Schedules s =
     all-more (reading-numbered Schedules s)
     (all-more (at-place 6 Schedules (schedulesAtOdds (schedulesOf s)) refl) all-none)
+alone-numbered Curves s = all-more (reading-numbered Curves (orHeader Curves s)) all-none
 alone-numbered Parents s =
     all-more (reading-numbered Parents (orHeader Parents s))
     (all-more (at-place 35 Parents (givenTwice (parentsOf s)) refl)
     (all-more (at-place 36 Parents (ringed (parentsOf s)) refl) all-none))
 
 check-numbered : (f : Files) → All (Numbered decisionNumbers) (checkRefusals f)
-unfolding among checkRefusals marketRefusals besideRefusals schedulesRefusals unitsRefusals
+unfolding among checkRefusals marketRefusals besideRefusals schedulesRefusals curvesRefusals pointRefusals unitsRefusals
 check-numbered f =
     let us = units (supplyOf (f .supply)) in
     let rs = schedulesOf (f .schedules) in
+    let vs = curvesOf (f .curves) in
     let hour = constraintOf (f .constraint) .hour in
     both
     (both (alone-numbered Constraint (f .constraint)) (alone-numbered Supply (f .supply)))
@@ -114,9 +117,15 @@ check-numbered f =
     (alone-numbered Schedules (f .schedules))
     (all-more (at-place 7 Schedules (notInSupply us rs) refl) all-none))
     (both
+    (both
+    (alone-numbered Curves (f .curves))
+    (all-more (at-place 32 Curves (strayPoint rs vs) refl)
+    (all-more (at-place 33 Curves (disordered vs) refl)
+    (all-more (at-place 34 Curves (endsLow rs vs) refl) all-none))))
+    (both
     (alone-numbered Parents (f .parents))
     (all-more (at-place 8 Schedules (unscheduled us rs) refl)
-    (all-more (at-place 9 Schedules (lacking hour us rs) refl) all-none))))
+    (all-more (at-place 9 Schedules (lacking hour us rs) refl) all-none)))))
 
 decision-numbered : (d : DayView) (f : Files) → All (Numbered decisionNumbers) (decisionRefusals d f)
 unfolding decisionRefusals rowsRefusals tooManyRunning among

@@ -1,6 +1,6 @@
 -- What is known of the day and the rows of a study that isn't refused. Assumes nothing.
 use Prim.Native.Nat.{_≤_, _<_}
-use mathlib.Core.Path.{_≡_}
+use mathlib.Core.Path.{_≡_, _∙_}
 use mathlib.Core.Bool.{true}
 use mathlib.Core.List.{List}
 use mathlib.Core.Option.{none}
@@ -13,7 +13,8 @@ use Rattle.tables.specs.Rows.{SupplyRow, ScheduleRow}
 use Rattle.tables.specs.declared.constraint.ConstraintRow.{ConstraintRow}
 use Rattle.tables.specs.declared.files.File.the-variants.{Schedules}
 use Rattle.tables.specs.Refusals.{refused, unless}
-use Rattle.checking.specs.Files.{Files, constraintOf, supplyOf, scheduledOf, parentsOf, groupsOf, checkRefusals, checkRefusal}
+use Rattle.curves.proofs.PricedLaws.{priced-odds, priced-scheduled, priced-runs, priced-permitted}
+use Rattle.checking.specs.Files.{Files, constraintOf, supplyOf, schedulesOf, curvesOf, parentsOf, scheduledOf, groupsOf, checkRefusals, checkRefusal}
 use Rattle.affiliates.proofs.GroupLaws.{grouped-units, grouped-agree, grouped-permitted}
 use Rattle.checking.specs.promises.Kept.{Kept}
 use Rattle.schedules.specs.Schedules.{schedulesAtOdds, unscheduled}
@@ -95,12 +96,14 @@ module _ (d : DayView) (f : Files) (e : decisionRefusal d f ≡ none) where
   pub sound : Sound (constraintOf (f .constraint)) (groupsOf f) (scheduledOf f) (d .running)
   unfolding noCostSchedule scheduledOf
   sound =
+      let points = curvesOf (f .curves) in
+      let filed = schedulesOf (f .schedules) in
       record {
         constraint = files-kept .constraint-permitted;
-        schedules = files-kept .schedules-permitted;
+        schedules = priced-permitted (files-kept .curves-permitted) (files-kept .schedules-permitted);
         supply-agrees = groups-agree;
-        schedules-agree = files-kept .schedules-agree;
-        each-scheduled = rw groups-units (files-kept .scheduled);
-        whole = rw groups-units (files-kept .whole);
+        schedules-agree = priced-odds points filed ∙ files-kept .schedules-agree;
+        each-scheduled = rw groups-units (priced-scheduled points (units (supplyOf (f .supply))) filed ∙ files-kept .scheduled);
+        whole = rw groups-units (priced-runs points (constraintOf (f .constraint) .hour) (units (supplyOf (f .supply))) filed ∙ files-kept .whole);
         each-cost = rw groups-units cost-kept;
       }

@@ -36,6 +36,7 @@ use Rattle.pivotal.specs.Test.{total, begun, fed, fedAll, left, pivotal, tooLar
 use Rattle.tables.specs.Rows.{SupplyRow, magnitude, kindOf}
 use Rattle.tables.specs.Refusals.{bareRefusal}
 use Rattle.affiliates.proofs.Computing.{affiliates·all}
+use Rattle.curves.proofs.Computing.{curves·all}
 use Rattle.numbers.proofs.Computing.{numbers·all}
 use Rattle.supply.proofs.Computing.{supply·all}
 use Rattle.outcome.proofs.Computing.{answer·all, day·all, decision·all, study·all}
@@ -48,9 +49,9 @@ atCost c = record { unit = 1; supplier = 1; mw = 1; cost = c; dfax = 15000 }
 abbrev pub shows : ℕ → Verdict → TestOutcome
 shows left verdict = record { told = bareRefusal 0; left = left; verdict = verdictLetter verdict }
 
--- the files of the example, with some parents
-abbrev pub exampleWith : List ℕ → Files
-exampleWith parents = files constraintFile supplyFile schedulesFile parents
+-- the files of the example, with some curves and some parents
+abbrev pub exampleWith : List ℕ → List ℕ → Files
+exampleWith curves parents = files constraintFile supplyFile schedulesFile curves parents
 
 abbrev pub answerExample : List ℕ
 answerExample =
@@ -71,7 +72,7 @@ unfolding inRun offerPrice price hourCost runningCost inItsRun share runCost sta
 choice·all = tt
 
 unfoldable pub engine·all : Unit {0}
-unfolding starred·all rising·all numbers·all supply·all affiliates·all schedules·all runs·all files·all market·all test·all choice·all day·all answer·all decision·all study·all
+unfolding starred·all rising·all numbers·all supply·all affiliates·all schedules·all runs·all curves·all files·all market·all test·all choice·all day·all answer·all decision·all study·all
 engine·all = tt
 
 -- "Capped offers: 0 gives 0; 9 gives 9; 10 gives 11; 99999 gives 109998; 100001 gives 110001; 190000, 195000 and 200000 each
@@ -85,8 +86,8 @@ pub starred :
     × (tested (5 ∷ 5 ∷ []) 0 1 ≡ shows 0 F)
     × (map offer (map atCost (91 ∷ 137 ∷ 138 ∷ [])) ≡ 100 ∷ 150 ∷ 151 ∷ [])
     × (map (relevant 1 (atCost 91)) (map atCost (137 ∷ 138 ∷ [])) ≡ true ∷ false ∷ [])
-    × (decisionRefusal freshDay (exampleWith []) ≡ none)
-    × (answerFile freshDay (exampleWith []) ≡ answerExample)
+    × (decisionRefusal freshDay (exampleWith [] []) ≡ none)
+    × (answerFile freshDay (exampleWith [] []) ≡ answerExample)
 unfolding engine·all
 starred = (refl, refl, refl, refl, refl, refl, refl, refl)
 
@@ -101,6 +102,21 @@ groupedExample =
     "unit,supplier,verdict,left,schedule,kind,cost\r\n11,1,F,0,2,C,1030000\r\n12,2,F,0,1,M,330000\r\n13,3,F,0,1,C,890000\r\n14,4,F,0,1,M,500000\r\n"
 
 pub grouped-example :
-    (decisionRefusal freshDay (exampleWith parentsFile) ≡ none) × (answerFile freshDay (exampleWith parentsFile) ≡ groupedExample)
+    (decisionRefusal freshDay (exampleWith [] parentsFile) ≡ none) × (answerFile freshDay (exampleWith [] parentsFile) ≡ groupedExample)
 unfolding engine·all
 grouped-example = (refl, refl)
+
+-- F-3: a curve on the cost-based schedule of unit 11, whose ecomin is 100: the price is 2000 and not the column's 3000, capped 2200,
+-- and the cost 920000.
+abbrev pub curvesFile : List ℕ
+curvesFile = bytes "unit,schedule,hour,mw,price\r\n11,2,5,50,1000\r\n11,2,5,100,2000\r\n"
+
+abbrev pub curvedExample : List ℕ
+curvedExample =
+    bytes
+    "unit,supplier,verdict,left,schedule,kind,cost\r\n11,1,F,0,2,C,920000\r\n12,2,F,0,1,M,330000\r\n13,3,F,0,1,C,890000\r\n14,4,F,5000000,1,M,500000\r\n"
+
+pub curved-example :
+    (decisionRefusal freshDay (exampleWith curvesFile []) ≡ none) × (answerFile freshDay (exampleWith curvesFile []) ≡ curvedExample)
+unfolding engine·all
+curved-example = (refl, refl)

@@ -24,17 +24,31 @@ fn main() {
     let mut constraint = [0u8; ROOM];
     let mut supply = [0u8; ROOM];
     let mut schedules = [0u8; ROOM];
+    let mut curves = [0u8; ROOM];
     let mut parents = [0u8; ROOM];
-    run(&mut constraint, &mut supply, &mut schedules, &mut parents);
+    run(
+        &mut constraint,
+        &mut supply,
+        &mut schedules,
+        &mut curves,
+        &mut parents,
+    );
 }
 
 // Reads the files into the room lent, and studies them; one that is too long comes before every refusal.
-fn run(constraint: &mut [u8], supply: &mut [u8], schedules: &mut [u8], parents: &mut [u8]) {
+fn run(
+    constraint: &mut [u8],
+    supply: &mut [u8],
+    schedules: &mut [u8],
+    curves: &mut [u8],
+    parents: &mut [u8],
+) {
     let c = read(b"constraint.csv", constraint);
     let s = read(b"supply.csv", supply);
     let t = read(b"schedules.csv", schedules);
+    let k = read(b"curves.csv", curves);
     let p = read(b"parents.csv", parents);
-    if MOST < c || MOST < s || MOST < t || MOST < p {
+    if MOST < c || MOST < s || MOST < t || MOST < k || MOST < p {
         print(b"too long\r\n");
         return;
     }
@@ -42,6 +56,7 @@ fn run(constraint: &mut [u8], supply: &mut [u8], schedules: &mut [u8], parents: 
         &constraint[0..c],
         &supply[0..s],
         &schedules[0..t],
+        &curves[0..k],
         &parents[0..p],
     );
 }
@@ -61,9 +76,9 @@ fn read(name: &[u8], room: &mut [u8]) -> usize
 }
 
 // Studies the files with room for the longest answer, and prints the answer file or the refusal.
-fn study(constraint: &[u8], supply: &[u8], schedules: &[u8], parents: &[u8]) {
+fn study(constraint: &[u8], supply: &[u8], schedules: &[u8], curves: &[u8], parents: &[u8]) {
     let mut room = [0u8; longest::LONGEST];
-    let answer = study_in_room(constraint, supply, schedules, parents, &mut room);
+    let answer = study_in_room(constraint, supply, schedules, curves, parents, &mut room);
     print_study(answer, &room);
 }
 
@@ -72,15 +87,16 @@ fn study_in_room(
     constraint: &[u8],
     supply: &[u8],
     schedules: &[u8],
+    curves: &[u8],
     parents: &[u8],
     room: &mut [u8],
 ) -> Study
     requires { ⌜ longest ≤ length (now room) ⌝ }
-    ensures { λ r. ⌜ StudiesFresh (files (now (constraint .entry)) (now (supply .entry)) (now (schedules .entry)) (now (parents .entry))) (now (room .entry)) (now (room .exit)) r ⌝ }
+    ensures { λ r. ⌜ StudiesFresh (files (now (constraint .entry)) (now (supply .entry)) (now (schedules .entry)) (now (curves .entry)) (now (parents .entry))) (now (room .entry)) (now (room .exit)) r ⌝ }
     ensures { λ r. ⌜ studyTold r .number ≢ 10 ⌝ }
     ensures { λ r. ⌜ studyCount r ≤ length (now (room .exit)) ⌝ }
 {
-    let studied = Day::fresh().study(constraint, supply, schedules, parents, room);
+    let studied = Day::fresh().study(constraint, supply, schedules, curves, parents, room);
     studied.answer
 }
 

@@ -17,7 +17,7 @@ use Rattle.csv.specs.Bytes.{DQUOTE}
 use Rattle.numeral.specs.Numeral.{number, within}
 use Rattle.numeral.proofs.Laws.{no-numeral-around}
 use Rattle.tables.specs.declared.files.File.{File}
-use Rattle.tables.specs.declared.files.File.the-variants.{Constraint, Supply, Schedules, Parents}
+use Rattle.tables.specs.declared.files.File.the-variants.{Constraint, Supply, Schedules, Curves, Parents}
 use Rattle.tables.specs.Table.{
   Form,
   numeral,
@@ -27,6 +27,7 @@ use Rattle.tables.specs.Table.{
   constraintColumns,
   supplyColumns,
   schedulesColumns,
+  curvesColumns,
   parentsColumns,
   table,
   header,
@@ -105,10 +106,11 @@ quotelessColumns [] = true
 quotelessColumns (c ∷ cs) = quoteless (c .minimum ∷ c .maximum ∷ c .name) && quotelessColumns cs
 
 pub table-quoteless : (f : File) → quotelessColumns (table f .columns) ≡ true
-unfolding quotelessColumns quoteless constraintColumns supplyColumns schedulesColumns parentsColumns
+unfolding quotelessColumns quoteless constraintColumns supplyColumns schedulesColumns curvesColumns parentsColumns
 table-quoteless Constraint = refl
 table-quoteless Supply = refl
 table-quoteless Schedules = refl
+table-quoteless Curves = refl
 table-quoteless Parents = refl
 
 -- what the test says of a column

@@ -11,7 +11,7 @@ use Rattle.base.proofs.Lists.{allAtMost, at-most}
 use Rattle.numeral.specs.declared.Answer.{Answer}
 use Rattle.numeral.specs.promises.Answers.{numeralAnswer}
 use Rattle.numeral.specs.Numeral.{number, within}
-use Rattle.tables.specs.Table.{Form, numeral, signed, letter, Column, column, constraintColumns, supplyColumns, schedulesColumns, parentsColumns}
+use Rattle.tables.specs.Table.{Form, numeral, signed, letter, Column, column, constraintColumns, supplyColumns, schedulesColumns, curvesColumns, parentsColumns}
 use Rattle.tables.specs.Values.{value, inForm, excess, oneOf, inColumn}
 use Rattle.tables.specs.promises.Columns.{allColumns, columnAt}
 
@@ -47,13 +47,13 @@ module _ (i : ℕ) where
   minimum-small = at-most 100000000 minima computed i
     where
       computed : allAtMost 100000000 minima ≡ true
-      computed = unfold allAtMost allColumns constraintColumns supplyColumns schedulesColumns parentsColumns in refl
+      computed = unfold allAtMost allColumns constraintColumns supplyColumns schedulesColumns curvesColumns parentsColumns in refl
 
   pub maximum-small : getD maxima i 0 ≤ 100000000
   maximum-small = at-most 100000000 maxima computed i
     where
       computed : allAtMost 100000000 maxima ≡ true
-      computed = unfold allAtMost allColumns constraintColumns supplyColumns schedulesColumns parentsColumns in refl
+      computed = unfold allAtMost allColumns constraintColumns supplyColumns schedulesColumns curvesColumns parentsColumns in refl
 
 -- a number below the minimum, and any other
 module _ (i x : ℕ) where

@@ -1,6 +1,6 @@
 -- What opens the definitions of this crate, for examples that compute. Assumes nothing.
 use Rattle.tables.specs.Reading.{rows, sameFields, misfit, miscount, malformed, irregular, misshapen, refusal}
-use Rattle.tables.specs.Table.{constraintColumns, supplyColumns, schedulesColumns, parentsColumns, header, joined, headerText, width}
+use Rattle.tables.specs.Table.{constraintColumns, supplyColumns, schedulesColumns, curvesColumns, parentsColumns, header, joined, headerText, width}
 use Rattle.tables.specs.Values.{excess, oneOf, inForm, value, isSome, cells, wellFormed}
 use Rattle.tables.specs.promises.Answers.{reading, laid, allCells}
 use Rattle.tables.specs.promises.Columns.{allColumns, columnAt}
@@ -10,7 +10,7 @@ unfolding rows sameFields misfit miscount malformed irregular misshapen refusal 
 tableReading·all = tt
 
 unfoldable pub table·all : Unit {0}
-unfolding constraintColumns supplyColumns schedulesColumns parentsColumns allColumns columnAt header joined headerText width
+unfolding constraintColumns supplyColumns schedulesColumns curvesColumns parentsColumns allColumns columnAt header joined headerText width
 table·all = tt
 
 unfoldable pub values·all : Unit {0}

@@ -11,10 +11,10 @@ use Rattle.base.proofs.Lists.{drop-back, rest-lent}
 use Rattle.csv.specs.promises.Fields.{extent, inner, unread, texts, passed}
 use Rattle.tables.specs.Reading.{sameFields}
 use Rattle.tables.specs.promises.Laying.{FieldsCompared, HeaderRead}
-use Rattle.tables.specs.Table.{header, joined, headerText, width, constraintColumns, supplyColumns, schedulesColumns, parentsColumns}
+use Rattle.tables.specs.Table.{header, joined, headerText, width, constraintColumns, supplyColumns, schedulesColumns, curvesColumns, parentsColumns}
 use Rattle.tables.proofs.RowLaws.{texts-next, passed-next}
 use Rattle.tables.specs.declared.files.File.{File}
-use Rattle.tables.specs.declared.files.File.the-variants.{Constraint, Supply, Schedules, Parents}
+use Rattle.tables.specs.declared.files.File.the-variants.{Constraint, Supply, Schedules, Curves, Parents}
 use Rattle.tables.specs.declared.headers.Header.{Header}
 
 -- k of n fields are compared
@@ -87,10 +87,11 @@ texts-same s t v w n m p q a b e =
     e ∙ rw (a, b, p′, q′)
 
 header-texts : (f : File) → texts (width f) (headerText f) ≡ header f
-unfolding texts extent inner unread header joined headerText width constraintColumns supplyColumns schedulesColumns parentsColumns
+unfolding texts extent inner unread header joined headerText width constraintColumns supplyColumns schedulesColumns curvesColumns parentsColumns
 header-texts Constraint = refl
 header-texts Supply = refl
 header-texts Schedules = refl
+header-texts Curves = refl
 header-texts Parents = refl
 
 pub header-read :

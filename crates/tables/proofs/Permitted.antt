@@ -21,9 +21,10 @@ use Rattle.tables.specs.promises.Ranges.{
   PermittedConstraint,
   PermittedSupply,
   PermittedSchedule,
+  PermittedPoint,
   PermittedParent,
 }
-use Rattle.tables.specs.Rows.{constraintRow, supplyRow, scheduleRow, parentRow}
+use Rattle.tables.specs.Rows.{constraintRow, supplyRow, scheduleRow, pointRow, parentRow}
 use Rattle.tables.specs.Table.{
   Form,
   numeral,
@@ -33,6 +34,7 @@ use Rattle.tables.specs.Table.{
   constraintColumns,
   supplyColumns,
   schedulesColumns,
+  curvesColumns,
   parentsColumns,
 }
 use Rattle.tables.specs.Values.{MINUS, excess, oneOf, inForm, value, isSome, cells, wellFormed}
@@ -129,6 +131,19 @@ schedule-permitted
       startup = t .1;
       some-minrun = m .0;
       minrun = m .1;
+    }
+
+pub point-permitted : {xs : List ℕ} → PermittedCells curvesColumns xs → PermittedPoint (pointRow xs)
+unfolding curvesColumns
+point-permitted (one-cell u (one-cell s (one-cell h (one-cell m (one-cell p no-cell))))) =
+    record {
+      some-unit = u .0;
+      unit = u .1;
+      some-schedule = s .0;
+      schedule = s .1;
+      hour = h .1;
+      mw = m .1;
+      price = p .1;
     }
 
 pub parent-permitted : {xs : List ℕ} → PermittedCells parentsColumns xs → PermittedParent (parentRow xs)

@@ -17,11 +17,11 @@ use Rattle.numeral.specs.declared.Answer.{Answer}
 use Rattle.numeral.specs.declared.Answer.the-variants.{Number, Refused}
 use Rattle.numeral.specs.promises.Answers.{numeralAnswer}
 use Rattle.numeral.proofs.Laws.{answer-number, answer-refused}
-use Rattle.tables.specs.Table.{Column, column, numeral, constraintColumns, supplyColumns, schedulesColumns, parentsColumns, table, width}
+use Rattle.tables.specs.Table.{Column, column, numeral, constraintColumns, supplyColumns, schedulesColumns, curvesColumns, parentsColumns, table, width}
 use Rattle.tables.specs.Values.{value, isSome, cells, wellFormed}
 use Rattle.tables.specs.promises.Laying.{FieldRead, RowLaid, RowsLaid}
 use Rattle.tables.specs.declared.files.File.{File}
-use Rattle.tables.specs.declared.files.File.the-variants.{Constraint, Supply, Schedules, Parents}
+use Rattle.tables.specs.declared.files.File.the-variants.{Constraint, Supply, Schedules, Curves, Parents}
 use Rattle.tables.specs.declared.rows.Field.{Field}
 use Rattle.tables.specs.declared.rows.Row.{Row}
 use Rattle.tables.specs.promises.Answers.{allCells}
@@ -32,21 +32,23 @@ unfoldable pub part : ℕ → ℕ → List Column
 part first n = take n (drop first allColumns)
 
 pub columns-part : (f : File) → table f .columns ≡ part (firstColumn f) (width f)
-unfolding part width allColumns constraintColumns supplyColumns schedulesColumns parentsColumns
+unfolding part width allColumns constraintColumns supplyColumns schedulesColumns curvesColumns parentsColumns
 columns-part Constraint = refl
 columns-part Supply = refl
 columns-part Schedules = refl
+columns-part Curves = refl
 columns-part Parents = refl
 
 pub within-all : (f : File) → firstColumn f + width f ≤ columnCount
-unfolding width constraintColumns supplyColumns schedulesColumns parentsColumns
+unfolding width constraintColumns supplyColumns schedulesColumns curvesColumns parentsColumns
 within-all Constraint = omega arith
 within-all Supply = omega arith
 within-all Schedules = omega arith
+within-all Curves = omega arith
 within-all Parents = omega arith
 
 all-length : length allColumns ≡ columnCount
-unfolding allColumns constraintColumns supplyColumns schedulesColumns parentsColumns
+unfolding allColumns constraintColumns supplyColumns schedulesColumns curvesColumns parentsColumns
 all-length = refl
 
 module _ (first n : ℕ) (fits : first + n ≤ columnCount) where

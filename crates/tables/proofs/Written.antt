@@ -15,21 +15,22 @@ use Rattle.csv.specs.Records.{records}
 use Rattle.csv.proofs.Decides.{file-read}
 use Rattle.csv.specs.promises.Plain.{allText, allTexts}
 use Rattle.csv.proofs.Written.{plainly, plain-field, sideBySide, fields-record}
-use Rattle.tables.specs.Table.{Column, table, header, joined, headerText, width, constraintColumns, supplyColumns, schedulesColumns, parentsColumns}
+use Rattle.tables.specs.Table.{Column, table, header, joined, headerText, width, constraintColumns, supplyColumns, schedulesColumns, curvesColumns, parentsColumns}
 use Rattle.tables.specs.Values.{isSome, cells, wellFormed}
 use Rattle.tables.specs.Reading.{rows, sameFields, misfit, miscount, malformed, misshapen, refusal}
 use Rattle.tables.specs.declared.files.File.{File}
-use Rattle.tables.specs.declared.files.File.the-variants.{Constraint, Supply, Schedules, Parents}
+use Rattle.tables.specs.declared.files.File.the-variants.{Constraint, Supply, Schedules, Curves, Parents}
 use Rattle.tables.specs.promises.Answers.{allCells}
 use Rattle.tables.specs.promises.RowCells.{CellsOf, RowsOf}
 use Rattle.tables.proofs.ReadLaws.{shape-right}
 
 -- a header's text is the record of the columns' names
 pub plain-header : (f : File) (r : List ℕ) → Record (headerText f ++ r) (header f) (CR ∷ LF ∷ r)
-unfolding headerText joined header constraintColumns supplyColumns schedulesColumns parentsColumns sideBySide plainly allTexts allText
+unfolding headerText joined header constraintColumns supplyColumns schedulesColumns curvesColumns parentsColumns sideBySide plainly allTexts allText
 plain-header Constraint r = fields-record plainly plain-field _ _ _ refl
 plain-header Supply r = fields-record plainly plain-field _ _ _ refl
 plain-header Schedules r = fields-record plainly plain-field _ _ _ refl
+plain-header Curves r = fields-record plainly plain-field _ _ _ refl
 plain-header Parents r = fields-record plainly plain-field _ _ _ refl
 
 same-names : (vs : List (List ℕ)) → sameFields vs vs ≡ true

@@ -28,6 +28,14 @@ pub record ScheduleRow : Type 0 where
   pub startup : ℕ
   pub minrun : ℕ
 
+-- a point of an offer curve, which a schedule has for an hour
+pub record PointRow : Type 0 where
+  pub unit : ℕ
+  pub schedule : ℕ
+  pub hour : ℕ
+  pub mw : ℕ
+  pub price : ℕ
+
 -- a supplier with the parent that it is given
 pub record ParentRow : Type 0 where
   pub supplier : ℕ
@@ -53,6 +61,10 @@ scheduleRow cs =
       startup = getD cs 7 0;
       minrun = getD cs 8 0;
     }
+
+abbrev pub pointRow : List ℕ → PointRow
+pointRow cs =
+    record { unit = getD cs 0 0; schedule = getD cs 1 0; hour = getD cs 2 0; mw = getD cs 3 0; price = getD cs 4 0 }
 
 abbrev pub parentRow : List ℕ → ParentRow
 parentRow cs = record { supplier = getD cs 0 0; parent = getD cs 1 0 }

@@ -1,13 +1,14 @@
 -- Document 01, "Files": the one fixed table of the files, their headers, columns, permitted ranges and numbers of rows. And
--- document 02, F-6: "A study's fifth file (parents.csv) `supplier,parent`, at most 64 rows", "both columns range as supplier does".
--- Assumes nothing.
+-- document 02, F-3: "A study's fourth file (curves.csv) `unit,schedule,hour,mw,price` brings at most .. 4096 rows; its mw ranges as
+-- ecomin, its other columns as in the schedules", and F-6: "A study's fifth file (parents.csv) `supplier,parent`, at most 64 rows",
+-- "both columns range as supplier does". Assumes nothing.
 use Prim.Native.Nat.{ℕ}
 use Prim.Native.String.{String}
 use mathlib.Core.List.{List, [], _∷_, _++_, map}
 use lib.ListN.{length}
 use Rattle.base.specs.Text.{bytes}
 use Rattle.tables.specs.declared.files.File.{File}
-use Rattle.tables.specs.declared.files.File.the-variants.{Constraint, Supply, Schedules, Parents}
+use Rattle.tables.specs.declared.files.File.the-variants.{Constraint, Supply, Schedules, Curves, Parents}
 use Rattle.csv.specs.Bytes.{COMMA, CR, LF}
 
 -- what a field may hold
@@ -39,12 +40,15 @@ M = 0x4D
 abbrev pub C : ℕ
 C = 0x43
 
--- the maximum of the hours, of suppliers' numbers, and of costs and prices
+-- the maximum of the hours, of suppliers' numbers, of ecomin, and of costs and prices
 abbrev pub latestHour : ℕ
 latestHour = 23
 
 abbrev pub highestSupplier : ℕ
 highestSupplier = 999
+
+abbrev pub highestEcomin : ℕ
+highestEcomin = 100000
 
 abbrev pub highestCost : ℕ
 highestCost = 200000
@@ -61,6 +65,9 @@ supplierColumn = column "supplier" numeral 1 highestSupplier  -- a number
 
 abbrev pub scheduleColumn : Column
 scheduleColumn = column "schedule" numeral 1 99  -- a number
+
+abbrev pub priceColumn : Column
+priceColumn = column "price" numeral 0 highestCost  -- cents per MWh
 
 unfoldable pub constraintColumns : List Column
 constraintColumns =
@@ -84,11 +91,20 @@ schedulesColumns =
     ∷ scheduleColumn
     ∷ column "kind" letter C M  -- a letter
     ∷ hourColumn
-    ∷ column "ecomin" numeral 0 100000  -- tenths of a MW
-    ∷ column "price" numeral 0 highestCost  -- cents per MWh
+    ∷ column "ecomin" numeral 0 highestEcomin  -- tenths of a MW
+    ∷ priceColumn
     ∷ column "noload" numeral 0 100000000  -- cents per hour
     ∷ column "startup" numeral 0 100000000  -- cents
     ∷ column "minrun" numeral 1 24  -- hours
+    ∷ []
+
+unfoldable pub curvesColumns : List Column
+curvesColumns =
+    unitColumn
+    ∷ scheduleColumn
+    ∷ hourColumn
+    ∷ column "mw" numeral 0 highestEcomin  -- tenths of a MW
+    ∷ priceColumn
     ∷ []
 
 unfoldable pub parentsColumns : List Column
@@ -101,6 +117,7 @@ abbrev pub table : File → Table
 table Constraint = record { number = 1; columns = constraintColumns; fewestRows = 1; mostRows = 1 }
 table Supply = record { number = 2; columns = supplyColumns; fewestRows = 0; mostRows = 256 }
 table Schedules = record { number = 3; columns = schedulesColumns; fewestRows = 0; mostRows = 1024 }
+table Curves = record { number = 4; columns = curvesColumns; fewestRows = 0; mostRows = 4096 }
 table Parents = record { number = 5; columns = parentsColumns; fewestRows = 0; mostRows = 64 }
 
 unfoldable pub header : File → List (List ℕ)

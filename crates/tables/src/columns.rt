@@ -10,12 +10,14 @@ use crate::kinds::M;
 use numeral::Answer;
 
 // The columns of all files, one file behind the other.
-const COLUMNS: usize = 19;
+const COLUMNS: usize = 24;
 
-// The maximum of the hours, of suppliers' numbers, and of costs and prices.
+// The maximum of the hours, of suppliers' numbers, of ecomin, and of costs and prices.
 const LATEST_HOUR: u64 = 23;
 
 const HIGHEST_SUPPLIER: u64 = 999;
+
+const HIGHEST_ECOMIN: u64 = 100000;
 
 const HIGHEST_COST: u64 = 200000;
 
@@ -47,6 +49,12 @@ pub const FORM: [u8; COLUMNS] = [
     NUMERAL,
     NUMERAL,
     NUMERAL,
+    // unit, schedule, hour, mw, price
+    NUMERAL,
+    NUMERAL,
+    NUMERAL,
+    NUMERAL,
+    NUMERAL,
     // supplier, parent
     NUMERAL,
     NUMERAL,
@@ -73,6 +81,12 @@ pub const MINIMUM: [u64; COLUMNS] = [
     0,
     0,
     1,
+    // unit, schedule, hour, mw, price
+    1,
+    1,
+    0,
+    0,
+    0,
     // supplier, parent
     1,
     1,
@@ -94,11 +108,17 @@ pub const MAXIMUM: [u64; COLUMNS] = [
     99,
     M,
     LATEST_HOUR,
-    100000,
+    HIGHEST_ECOMIN,
     HIGHEST_COST,
     100000000,
     100000000,
     24,
+    // unit, schedule, hour, mw, price
+    9999,
+    99,
+    LATEST_HOUR,
+    HIGHEST_ECOMIN,
+    HIGHEST_COST,
     // supplier, parent
     HIGHEST_SUPPLIER,
     HIGHEST_SUPPLIER,
@@ -114,7 +134,8 @@ pub fn first_column(file: File) -> usize
         File::Constraint => 0,
         File::Supply => 3,
         File::Schedules => 8,
-        File::Parents => 17,
+        File::Curves => 17,
+        File::Parents => 22,
     }
 }
 

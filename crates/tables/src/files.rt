@@ -19,6 +19,7 @@ pub enum File {
     Constraint,
     Supply,
     Schedules,
+    Curves,
     Parents,
 }
 
@@ -35,6 +36,7 @@ pub fn number(file: File) -> u64
         File::Constraint => 1,
         File::Supply => 2,
         File::Schedules => 3,
+        File::Curves => 4,
         File::Parents => 5,
     }
 }
@@ -46,6 +48,7 @@ pub fn width(file: File) -> usize
         File::Constraint => 3,
         File::Supply => 5,
         File::Schedules => 9,
+        File::Curves => 5,
         File::Parents => 2,
     }
 }
@@ -57,6 +60,7 @@ pub fn fewest_rows(file: File) -> usize
         File::Constraint => 1,
         File::Supply => 0,
         File::Schedules => 0,
+        File::Curves => 0,
         File::Parents => 0,
     }
 }
@@ -68,6 +72,7 @@ pub fn most_rows(file: File) -> usize
         File::Constraint => 1,
         File::Supply => 256,
         File::Schedules => 1024,
+        File::Curves => 4096,
         File::Parents => 64,
     }
 }

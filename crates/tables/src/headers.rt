@@ -20,6 +20,8 @@ pub const SUPPLY_HEADER: [u8; 28] = *b"unit,supplier,mw,cost,dfax\r\n";
 pub const SCHEDULES_HEADER: [u8; 60] =
     *b"unit,schedule,kind,hour,ecomin,price,noload,startup,minrun\r\n";
 
+pub const CURVES_HEADER: [u8; 29] = *b"unit,schedule,hour,mw,price\r\n";
+
 pub const PARENTS_HEADER: [u8; 17] = *b"supplier,parent\r\n";
 
 // A header that was read: whether every field has its name, and where the first row begins.
@@ -35,6 +37,7 @@ pub fn read_header(file: File, s: &[u8]) -> Header
         File::Constraint => compare_fields(s, &CONSTRAINT_HEADER, width(file)),
         File::Supply => compare_fields(s, &SUPPLY_HEADER, width(file)),
         File::Schedules => compare_fields(s, &SCHEDULES_HEADER, width(file)),
+        File::Curves => compare_fields(s, &CURVES_HEADER, width(file)),
         File::Parents => compare_fields(s, &PARENTS_HEADER, width(file)),
     }
 }

@@ -27,6 +27,7 @@ pub use files::most_rows;
 pub use files::number;
 pub use files::width;
 pub use headers::CONSTRAINT_HEADER;
+pub use headers::CURVES_HEADER;
 pub use headers::PARENTS_HEADER;
 pub use headers::SCHEDULES_HEADER;
 pub use headers::SUPPLY_HEADER;

@@ -6,6 +6,7 @@ use crate::lines::BLANK;
 use crate::lines::LF;
 use numeral::Answer;
 use tables::CONSTRAINT_HEADER;
+use tables::CURVES_HEADER;
 use tables::File;
 use tables::PARENTS_HEADER;
 use tables::SCHEDULES_HEADER;
@@ -25,6 +26,7 @@ pub fn put_header(file: File, out: &mut [u8]) -> usize
         File::Constraint => put(&CONSTRAINT_HEADER, out),
         File::Supply => put(&SUPPLY_HEADER, out),
         File::Schedules => put(&SCHEDULES_HEADER, out),
+        File::Curves => put(&CURVES_HEADER, out),
         File::Parents => put(&PARENTS_HEADER, out),
     }
 }

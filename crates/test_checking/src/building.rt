@@ -85,7 +85,8 @@ fn part(file: File, line: &[u8]) -> &[u8] {
         File::Constraint => first(line, SEMICOLON),
         File::Supply => first(after(line, SEMICOLON), SEMICOLON),
         File::Schedules => after(after(line, SEMICOLON), SEMICOLON),
-        // Cases have no parents.
+        // Cases have neither curves nor parents.
+        File::Curves => &line[0..0],
         File::Parents => &line[0..0],
     }
 }

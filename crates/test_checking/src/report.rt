@@ -30,7 +30,15 @@ fn with_market(market: Market, schedules: &[u8], units: &[u64])
     let mut cells = [0u64; SCHEDULE_CELLS];
     let mut links = [0u16; links::LENGTH];
     let no_parents = Reading::Rows(0);
-    let reading = check_schedules(market, no_parents, schedules, units, &mut cells, &mut links);
+    let reading = check_schedules(
+        market,
+        no_parents,
+        schedules,
+        &[],
+        units,
+        &mut cells,
+        &mut links,
+    );
     match reading {
         Reading::Refused(refusal) => print_refusal(refusal),
         Reading::Rows(n) => print_rows(market.rows, n, market.units),

@@ -12,8 +12,8 @@ use texts::after;
 use texts::first;
 use texts::same_text;
 
-// Room for more than the longest file that a case builds, of 1,026 short rows.
-const FILE_BYTES: usize = 32768;
+// Room for more than the longest file that a case builds, of 4,097 short rows.
+const FILE_BYTES: usize = 65536;
 
 // Reads the file of a case and prints what comes of it; does nothing with a line that is no case.
 pub fn answer(line: &[u8]) {
@@ -28,6 +28,8 @@ pub fn answer(line: &[u8]) {
         one(File::Supply, form);
     } else if same_text(name, b"schedules") {
         one(File::Schedules, form);
+    } else if same_text(name, b"curves") {
+        one(File::Curves, form);
     } else if same_text(name, b"parents") {
         one(File::Parents, form);
     } else {

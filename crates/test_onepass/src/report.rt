@@ -5,8 +5,8 @@ use tables::Reading;
 use test_cases::print;
 use test_cases::print_three;
 
-// The cells of the longest file: 1,024 rows of 9.
-const CELLS: usize = 9216;
+// The cells of the longest file: 4,096 rows of 5.
+const CELLS: usize = 20480;
 
 // What a cell holds that reading has not written.
 const UNTOUCHED: u64 = 18_446_744_073_709_551_615;

@@ -21,7 +21,7 @@ use Rattle.tables.specs.declared.files.Reading.{Reading}
 use Rattle.tables.specs.declared.files.Reading.the-variants.{Rows as RowsRead, Refused as NotRead}
 use Rattle.tables.specs.declared.files.Refusal.{Refusal}
 use Rattle.tables.proofs.RefusalLaws.{unless-broken, unless-kept}
-use Rattle.checking.specs.Files.{aloneRefusals}
+use Rattle.checking.specs.Files.{schedulesOf, aloneRefusals}
 use Rattle.checking.specs.promises.Alone.{constraintChecked, SupplyChecked, SchedulesChecked}
 use Rattle.checking.specs.declared.constraint_file.ConstraintCheck.{ConstraintCheck}
 use Rattle.checking.specs.declared.constraint_file.ConstraintCheck.the-variants.{Row, Refused as ConstraintRefused}
@@ -100,7 +100,7 @@ module _ (s buffer : List ℕ) where
         let passed = counts-answered _ s (sym (checked .answers) ∙ e) .0 in
         file-copied Supply s buffer passed (first-of-none (refusal Supply s) _ passed .0) w
 
-  module _ (cells links : List ℕ) {r : Reading} (checked : SchedulesChecked (aloneRefusals Schedules s) s cells links r) where
+  module _ (cells links : List ℕ) {r : Reading} (checked : SchedulesChecked (aloneRefusals Schedules s) (schedulesOf s) cells links r) where
     pub schedules-refused : {x : Refusal} → r ≡ NotRead x → Tidies (tidied Schedules s buffer) buffer (Refused x)
     schedules-refused e = file-refused Schedules s buffer (refused-answered _ _ (sym (checked .answers) ∙ e))
 

@@ -15,11 +15,11 @@ use Rattle.base.proofs.Searches.{first-none-all}
 use Rattle.csv.specs.Bytes.{COMMA, CR, LF}
 use Rattle.numeral.specs.Numeral.{digits}
 use Rattle.numeral.proofs.Laws.{length-longer}
-use Rattle.tables.specs.Table.{Form, numeral, signed, letter, Column, table, header, joined, recordText, constraintColumns, supplyColumns, schedulesColumns, parentsColumns}
+use Rattle.tables.specs.Table.{Form, numeral, signed, letter, Column, table, header, joined, recordText, constraintColumns, supplyColumns, schedulesColumns, curvesColumns, parentsColumns}
 use Rattle.tables.specs.Reading.{refusal}
 use Rattle.tables.specs.Values.{MINUS}
 use Rattle.tables.specs.declared.files.File.{File}
-use Rattle.tables.specs.declared.files.File.the-variants.{Constraint, Supply, Schedules, Parents}
+use Rattle.tables.specs.declared.files.File.the-variants.{Constraint, Supply, Schedules, Curves, Parents}
 use Rattle.tables.specs.promises.Ranges.{permits, PermittedCells, none as no-cell, more as one-cell}
 use Rattle.tidy.specs.Longest.{widestAs, widest, longestTidy}
 use Rattle.tidy.specs.Tidy.{shownAs, shown, shownRow, tidyText, tidyOf}
@@ -35,13 +35,14 @@ abbrev low : Column → Bool
 low c = lowAs (c .form) (c .minimum) (c .maximum)
 
 low-columns : (f : File) → All (λ (c : Column). low c ≡ true) (table f .columns)
-unfolding first constraintColumns supplyColumns schedulesColumns parentsColumns
+unfolding first constraintColumns supplyColumns schedulesColumns curvesColumns parentsColumns
 low-columns f = first-none-all low 0 (table f .columns) (found f)
   where
     found : (f : File) → first (λ (c : Column). not (low c)) 0 (table f .columns) ≡ none
     found Constraint = refl
     found Supply = refl
     found Schedules = refl
+    found Curves = refl
     found Parents = refl
 
 -- a field

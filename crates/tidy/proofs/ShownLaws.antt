@@ -21,10 +21,10 @@ use Rattle.csv.proofs.Steps.{textdata-true}
 use Rattle.numeral.specs.Grammar.{Digit}
 use Rattle.numeral.specs.Numeral.{number, within, digits}
 use Rattle.numeral.proofs.Laws.{number-digits, digits-number, digits-digit, within-some}
-use Rattle.tables.specs.Table.{Form, numeral, signed, letter, Column, table, header, constraintColumns, supplyColumns, schedulesColumns, parentsColumns}
+use Rattle.tables.specs.Table.{Form, numeral, signed, letter, Column, table, header, constraintColumns, supplyColumns, schedulesColumns, curvesColumns, parentsColumns}
 use Rattle.tables.specs.Values.{MINUS, excess, oneOf, inForm, value, isSome, cells, wellFormed}
 use Rattle.tables.specs.declared.files.File.{File}
-use Rattle.tables.specs.declared.files.File.the-variants.{Constraint, Supply, Schedules, Parents}
+use Rattle.tables.specs.declared.files.File.the-variants.{Constraint, Supply, Schedules, Curves, Parents}
 use Rattle.tables.specs.promises.Ranges.{permits, PermittedCells, none as no-cell, more as one-cell}
 use Rattle.tables.specs.promises.RowCells.{CellsOf}
 use Rattle.tables.proofs.Permitted.{row-permitted}
@@ -194,13 +194,14 @@ row-text (all-more t ts) (one-cell {c = c} {x = x} p ps) =
 
 module _ (f : File) where
   plain-columns : All (λ (c : Column). plainLetters c ≡ true) (table f .columns)
-  unfolding first constraintColumns supplyColumns schedulesColumns parentsColumns
+  unfolding first constraintColumns supplyColumns schedulesColumns curvesColumns parentsColumns
   plain-columns = first-none-all plainLetters 0 (table f .columns) (found f)
     where
       found : (f : File) → first (λ (c : Column). not (plainLetters c)) 0 (table f .columns) ≡ none
       found Constraint = refl
       found Supply = refl
       found Schedules = refl
+      found Curves = refl
       found Parents = refl
 
   pub shown-text : {xs : List ℕ} → PermittedCells (table f .columns) xs → allTexts (shownRow (table f .columns) xs) ≡ true
@@ -212,8 +213,9 @@ module _ (f : File) where
       sym (ap allTexts (cells-shown (table f .columns) vs n e)) ∙ shown-text (row-permitted (table f .columns) vs n e)
 
 pub header-text : (f : File) → allTexts (header f) ≡ true
-unfolding header allTexts allText constraintColumns supplyColumns schedulesColumns parentsColumns
+unfolding header allTexts allText constraintColumns supplyColumns schedulesColumns curvesColumns parentsColumns
 header-text Constraint = refl
 header-text Supply = refl
 header-text Schedules = refl
+header-text Curves = refl
 header-text Parents = refl

@@ -9,10 +9,10 @@ use Rattle.base.specs.Search.{firstOf}
 use Rattle.base.specs.Text.{together}
 use Rattle.base.proofs.FirstLaws.{first-of-one, first-of-later}
 use Rattle.base.proofs.Searches.{first-of-none}
-use Rattle.tables.specs.Table.{header, joined, parentsColumns}
+use Rattle.tables.specs.Table.{header, joined, constraintColumns, supplyColumns, schedulesColumns, curvesColumns, parentsColumns}
 use Rattle.tables.specs.Reading.{refusal}
 use Rattle.tables.specs.declared.files.File.{File}
-use Rattle.tables.specs.declared.files.File.the-variants.{Constraint, Supply, Schedules, Parents}
+use Rattle.tables.specs.declared.files.File.the-variants.{Constraint, Supply, Schedules, Curves, Parents}
 use Rattle.checking.specs.Files.{rowsAsCells, supplyOf, schedulesOf, orHeader, parentsOf, aloneRefusals}
 use Rattle.tidy.specs.Tidy.{tidyText, tidyOf}
 use Rattle.tidy.proofs.TidyRows.{alone-allowed, header-rows, not-refused, same-rows}
@@ -27,9 +27,13 @@ unfolding tidyOf
 tidy-read f s e = not-refused f (alone-allowed f s e)
 
 -- a tidy file has bytes
-some-bytes : (s : List ℕ) → orHeader Parents (tidyOf Parents s) ≡ tidyOf Parents s
-unfolding orHeader tidyOf tidyText together header joined parentsColumns
-some-bytes s = refl
+some-bytes : (f : File) (s : List ℕ) → orHeader f (tidyOf f s) ≡ tidyOf f s
+unfolding orHeader tidyOf tidyText together header joined constraintColumns supplyColumns schedulesColumns curvesColumns parentsColumns
+some-bytes Constraint s = refl
+some-bytes Supply s = refl
+some-bytes Schedules s = refl
+some-bytes Curves s = refl
+some-bytes Parents s = refl
 
 pub tidy-accepted : (f : File) (s : List ℕ) → firstOf (aloneRefusals f s) ≡ none → firstOf (aloneRefusals f (tidyOf f s)) ≡ none
 unfolding aloneRefusals supplyOf schedulesOf parentsOf
@@ -40,10 +44,12 @@ tidy-accepted Supply s e =
 tidy-accepted Schedules s e =
     first-of-later (refusal Schedules (tidyOf Schedules s)) _ (tidy-read Schedules s e)
     ∙ rw (tidy-rows Schedules s e) (first-of-none (refusal Schedules s) _ e .1)
+tidy-accepted Curves s e =
+    rw (some-bytes Curves s) (first-of-one (refusal Curves (tidyOf Curves s)) ∙ tidy-read Curves s e)
 tidy-accepted Parents s e =
-    rw (some-bytes s)
+    rw (some-bytes Parents s)
     (first-of-later (refusal Parents (tidyOf Parents s)) _ (tidy-read Parents s e)
-    ∙ rw (tidy-rows Parents s e, ← header-rows s) (first-of-none (refusal Parents (orHeader Parents s)) _ e .1))
+    ∙ rw (tidy-rows Parents s e, ← header-rows Parents s) (first-of-none (refusal Parents (orHeader Parents s)) _ e .1))
 
 -- "two such files of one kind have the same tidy bytes exactly when their rows agree"
 pub tidy-same :

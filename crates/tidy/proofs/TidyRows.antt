@@ -11,11 +11,11 @@ use Rattle.base.specs.Text.{together}
 use Rattle.base.proofs.Searches.{first-of-none}
 use Rattle.csv.specs.Grammar.{File as Grammar·File}
 use Rattle.csv.proofs.Computing.{reading·all}
-use Rattle.tables.specs.Table.{Column, table, header, constraintColumns, supplyColumns, schedulesColumns, parentsColumns}
+use Rattle.tables.specs.Table.{Column, table, header, constraintColumns, supplyColumns, schedulesColumns, curvesColumns, parentsColumns}
 use Rattle.tables.specs.Values.{cells}
 use Rattle.tables.specs.Reading.{refusal}
 use Rattle.tables.specs.declared.files.File.{File}
-use Rattle.tables.specs.declared.files.File.the-variants.{Constraint, Supply, Schedules, Parents}
+use Rattle.tables.specs.declared.files.File.the-variants.{Constraint, Supply, Schedules, Curves, Parents}
 use Rattle.tables.specs.promises.Ranges.{PermittedCells}
 use Rattle.tables.specs.promises.RowCells.{RowsOf}
 use Rattle.tables.proofs.Accepted.{accepted}
@@ -42,26 +42,34 @@ read-allowed f s e =
       permitted = a .permitted;
     }
 
--- parents of no bytes have the rows of their header alone: none
-pub header-rows : (s : List ℕ) → rowsAsCells Parents (orHeader Parents s) ≡ rowsAsCells Parents s
+-- curves and parents of no bytes have the rows of their header alone: none
+pub header-rows : (f : File) (s : List ℕ) → rowsAsCells f (orHeader f s) ≡ rowsAsCells f s
 unfolding rowsAsCells orHeader reading·all tableReading·all table·all
-header-rows [] = refl
-header-rows (b ∷ s) = refl
+header-rows Constraint [] = refl
+header-rows Supply [] = refl
+header-rows Schedules [] = refl
+header-rows Curves [] = refl
+header-rows Parents [] = refl
+header-rows f (b ∷ s) = refl
+
+with-header : (f : File) (s : List ℕ) → refusal f (orHeader f s) ≡ none → Allowed f (rowsAsCells f s)
+with-header f s e = rw (header-rows f s) at (read-allowed f (orHeader f s) e)
 
 pub alone-allowed : (f : File) (s : List ℕ) → firstOf (aloneRefusals f s) ≡ none → Allowed f (rowsAsCells f s)
 unfolding aloneRefusals
 alone-allowed Constraint s e = read-allowed Constraint s (first-of-none (refusal Constraint s) _ e .0)
 alone-allowed Supply s e = read-allowed Supply s (first-of-none (refusal Supply s) _ e .0)
 alone-allowed Schedules s e = read-allowed Schedules s (first-of-none (refusal Schedules s) _ e .0)
-alone-allowed Parents s e =
-    rw (header-rows s) at (read-allowed Parents (orHeader Parents s) (first-of-none (refusal Parents (orHeader Parents s)) _ e .0))
+alone-allowed Curves s e = with-header Curves s (first-of-none (refusal Curves (orHeader Curves s)) _ e .0)
+alone-allowed Parents s e = with-header Parents s (first-of-none (refusal Parents (orHeader Parents s)) _ e .0)
 
 -- no record of a file is without fields
 any-column : (f : File) → 0 < length (table f .columns)
-unfolding constraintColumns supplyColumns schedulesColumns parentsColumns
+unfolding constraintColumns supplyColumns schedulesColumns curvesColumns parentsColumns
 any-column Constraint = omega arith
 any-column Supply = omega arith
 any-column Schedules = omega arith
+any-column Curves = omega arith
 any-column Parents = omega arith
 
 module _ (f : File) where

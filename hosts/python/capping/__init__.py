@@ -1,13 +1,13 @@
 """The offer capping engine as Python programs call it, so that a seller's script can check its files before it sends them.
 
     day = capping.Day.fresh()
-    row = day.preview(constraint, supply, schedules, 14, parents=parents)
-    answer = day.study(constraint, supply, schedules, parents=parents)
+    row = day.preview(constraint, supply, schedules, 14, curves=curves, parents=parents)
+    answer = day.study(constraint, supply, schedules, curves=curves, parents=parents)
     tidy = capping.tidy("supply", supply)
 
-Files are bytes, and so is what is handed back, but for a row, which is a `Row`. Without `parents` no suppliers are affiliated.
-What is refused raises `Refused`. Nothing is kept but in a `Day`, so threads may call at the same time. `python3 -m capping --help`
-is the same for people.
+Files are bytes, and so is what is handed back, but for a row, which is a `Row`. Without `curves` each schedule row has the price
+of its column, and without `parents` no suppliers are affiliated. What is refused raises `Refused`. Nothing is kept but in a
+`Day`, so threads may call at the same time. `python3 -m capping --help` is the same for people.
 """
 from .calls import TEST_REFUSED, VERDICTS, check, study, test, tidy
 from .day import Day

@@ -10,15 +10,16 @@ VERDICTS = {0: "P", 1: "F"}
 
 
 def check(constraint, supply, schedules):
-    """Checks three files of a study, each as bytes: 0, or the number of the first refusal, 1 to 9, that a study of them without
-    parents gives."""
+    """Checks three files of a study, each as bytes: 0, or the number of the first refusal, 1 to 9, that a study of these three
+    alone gives."""
     return functions().capping_check(*lent(constraint, supply, schedules))
 
 
-def study(constraint, supply, schedules, room=LONGEST_ANSWER, *, parents=b""):
+def study(constraint, supply, schedules, room=LONGEST_ANSWER, *, curves=b"", parents=b""):
     """Studies the files, each as bytes, on a fresh day, and answers the answer file. `room` is how long a buffer is lent to it;
-    the longest answer always fits. Without `parents` no suppliers are affiliated."""
-    files = lent(constraint, supply, schedules, parents)
+    the longest answer always fits. Without `curves` each schedule row has the price of its column, and without `parents` no
+    suppliers are affiliated."""
+    files = lent(constraint, supply, schedules, curves, parents)
     return written_by(functools.partial(functions().capping_study, *files), room)
 
 

@@ -55,7 +55,10 @@ class File(typing.NamedTuple):
 
 UNIT = Column("unit", 1, 9999)
 SUPPLIER = Column("supplier", 1, 999)
+SCHEDULE = Column("schedule", 1, 99)
 HOUR = Column("hour", 0, 23)
+ECOMIN = Column("ecomin", 0, 100000, "tenths of a MW")
+PRICE = Column("price", 0, 200000, "cents per MWh")
 
 CONSTRAINT = File(
     "constraint.csv",
@@ -78,19 +81,20 @@ SCHEDULES = File(
     "at most 1024",
     (
         UNIT,
-        Column("schedule", 1, 99),
+        SCHEDULE,
         Column("kind", form=LETTER),
         HOUR,
-        Column("ecomin", 0, 100000, "tenths of a MW"),
-        Column("price", 0, 200000, "cents per MWh"),
+        ECOMIN,
+        PRICE,
         Column("noload", 0, 100000000, "cents per hour"),
         Column("startup", 0, 100000000, "cents"),
         Column("minrun", 1, 24, "hours"),
     ),
 )
+CURVES = File("curves.csv", "at most 4096", (UNIT, SCHEDULE, HOUR, ECOMIN._replace(name="mw"), PRICE))
 PARENTS = File("parents.csv", "at most 64", (SUPPLIER, SUPPLIER._replace(name="parent")))
 
-FILES = {"constraint": CONSTRAINT, "supply": SUPPLY, "schedules": SCHEDULES, "parents": PARENTS}
-"""The files of a study, by what a study calls them."""
+FILES = {"constraint": CONSTRAINT, "supply": SUPPLY, "schedules": SCHEDULES, "curves": CURVES, "parents": PARENTS}
+"""The files of a study in its order, by what a study calls them."""
 CHECKED = ("constraint", "supply", "schedules")
 """Those of them that a check takes."""

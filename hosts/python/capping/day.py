@@ -63,19 +63,20 @@ class Day:
         """The running units, each with unit, kind and schedule, at most 64, as the engine sees them."""
         return seen(self._cells).running
 
-    def study(self, constraint, supply, schedules, room=LONGEST_ANSWER, *, parents=b""):
+    def study(self, constraint, supply, schedules, room=LONGEST_ANSWER, *, curves=b"", parents=b""):
         """Studies the files, each as bytes, on this day, and answers the answer file. `room` is how long a buffer is lent to
-        it; the longest answer always fits. Without `parents` no suppliers are affiliated."""
-        files = lent(constraint, supply, schedules, parents)
+        it; the longest answer always fits. Without `curves` each schedule row has the price of its column, and without
+        `parents` no suppliers are affiliated."""
+        files = lent(constraint, supply, schedules, curves, parents)
         cells = self._copied()
         answer = written_by(functools.partial(functions().capping_day_study, cells, *files), room)
         self._cells = cells
         return answer
 
-    def preview(self, constraint, supply, schedules, unit, *, parents=b""):
+    def preview(self, constraint, supply, schedules, unit, *, curves=b"", parents=b""):
         """Looks at the choice for one unit: the row that a study of the files on this day would answer for it, as fields. The
         day stays as it is. What that study is refused with, this is too, and else with 31 where the unit isn't in supply."""
-        files = lent(constraint, supply, schedules, parents)
+        files = lent(constraint, supply, schedules, curves, parents)
         row, report = RowCells(), Report()
         functions().capping_preview(self._cells, *files, _lent_number(unit), row, report)
         refuse(report)

@@ -42,8 +42,7 @@ def functions():
 def _typed(library):
     number, length = ctypes.c_uint64, ctypes.c_size_t
     file = [ctypes.c_char_p, length]
-    check = file * 3
-    files = [*check, *file]
+    check, files = file * 3, file * 5
     written = [ctypes.c_char_p, length, Report]
     study = [*files, *written]
     amounts = [ctypes.POINTER(number), length]

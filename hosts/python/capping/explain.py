@@ -10,10 +10,13 @@ LONGEST_SHOWN = 120
 LONGEST_DAY_SHOWN = 1000
 MOST_UNITS = 64
 MOST_SUPPLIERS = 32
+MOST_POINTS = 10
 HOUR_TOO_EARLY = 20
 TOO_MANY_RUNNING = 22
 OF_THE_DAY = range(20, 25)
 NOT_IN_SUPPLY = 31
+CURVE = ("unit", "schedule", "hour")
+"""What the points of one curve have alike with each other and with their row in schedules."""
 
 
 def explained(refused, files, day):
@@ -21,15 +24,15 @@ def explained(refused, files, day):
     The bytes of the files are given by what a study calls them."""
     lines = [f"refused with {refused.number}: {refused.meaning}"]
     if refused.file != 0:
-        lines += DETAILS[refused.number](_spot(files, refusal.FILES[refused.file], refused.place))
+        lines += DETAILS[refused.number](Spot(files, refusal.FILES[refused.file], refused.place))
     if refused.number == HOUR_TOO_EARLY:
-        lines.append(_spot(files, "constraint", place=1).line())
+        lines.append(Spot(files, "constraint", place=1).line())
     if refused.number == TOO_MANY_RUNNING:
-        lines.append(_crowd(_spot(files, "supply"), day))
+        lines.append(_crowd(Spot(files, "supply"), day))
     if refused.number in OF_THE_DAY:
         lines.append(f"the day: {shown(str(day).encode(), LONGEST_DAY_SHOWN)}")
     if refused.number == NOT_IN_SUPPLY:
-        lines.append(_units_to_preview(_spot(files, "supply")))
+        lines.append(_units_to_preview(Spot(files, "supply")))
     return [*lines, f"{PAGE} says how to mend it, under {refused.number}"]
 
 
@@ -47,10 +50,15 @@ def counted(count, thing):
 class Spot:
     """Where a refusal points: a file, and a record of it or a unit."""
 
-    def __init__(self, file, content, place):
-        self.file = file
-        self.content = content
+    def __init__(self, files, file, place=0):
+        self._files = files
+        self.file = columns.FILES[file]
+        self.content = files[file]
         self.place = place
+
+    def elsewhere(self, file):
+        """The same for another file, by what a study calls it."""
+        return Spot(self._files, file)
 
     def records(self):
         return records(self.content)
@@ -62,11 +70,11 @@ class Spot:
 
     def line(self):
         """The record as it stands."""
-        return f"{self.file.name}, record {self.place}: {shown(self.records()[self.place].raw)}"
+        return f"{self.file.name}, {self.record(self.place)}"
 
-
-def _spot(files, file, place=0):
-    return Spot(columns.FILES[file], files[file], place)
+    def record(self, place):
+        """A record of the file as it stands."""
+        return f"record {place}: {shown(self.records()[place].raw)}"
 
 
 def _record(spot):
@@ -124,6 +132,40 @@ def _at_odds(spot):
     return [spot.line(), f"at odds with record {earlier}, which has {words}: {text}"]
 
 
+def _no_row(spot):
+    point, schedules = spot.rows()[spot.place], spot.elsewhere("schedules")
+    rows = [row for row in schedules.rows()[1:] if _alike(row, point, ("unit", "schedule"))]
+    hours = ", ".join(map(str, sorted(int(row["hour"]) for row in rows)))
+    whose = f"unit {point['unit'].decode()}, schedule {point['schedule'].decode()}"
+    return [spot.line(), f"hours of {whose} in {schedules.file.name}: {hours or 'none'}"]
+
+
+def _no_rise(spot):
+    rows = spot.rows()
+    point = rows[spot.place]
+    earlier = [place for place in range(1, spot.place) if _alike(rows[place], point, CURVE)]
+    before = earlier[-1]
+    level = [name for name in ("mw", "price") if int(point[name]) <= int(rows[before][name])]
+    lines = [spot.line()]
+    if level:
+        lines.append(f"it is no higher in {' and '.join(level)} than the point before, {spot.record(before)}")
+    if len(earlier) >= MOST_POINTS:
+        lines.append(f"with it there are {len(earlier) + 1} points of its curve (of at most {MOST_POINTS})")
+    return lines
+
+
+def _ends_low(spot):
+    point, schedules = spot.rows()[spot.place], spot.elsewhere("schedules")
+    rows = enumerate(schedules.rows())
+    place, ecomin = next((place, row["ecomin"].decode()) for place, row in rows if _alike(row, point, CURVE))
+    where = f"{schedules.file.name}, {schedules.record(place)}"
+    return [spot.line(), f"the last mw of its curve should be at least ecomin, which is {ecomin} in {where}"]
+
+
+def _alike(row, other, names):
+    return all(row[name] == other[name] for name in names)
+
+
 def _ring(spot):
     rows = spot.rows()
     parents = {row["supplier"]: row["parent"] for row in rows[1:]}
@@ -166,6 +208,9 @@ DETAILS = {
     8: _unit,
     9: _unit,
     21: _unit,
+    32: _no_row,
+    33: _no_rise,
+    34: _ends_low,
     35: _at_odds,
     36: _ring,
 }

@@ -1,6 +1,6 @@
 """Refusals, and what their numbers say in plain words."""
 
-FILES = {1: "constraint", 2: "supply", 3: "schedules", 5: "parents"}
+FILES = {1: "constraint", 2: "supply", 3: "schedules", 4: "curves", 5: "parents"}
 FILE_NUMBERS = {name: number for number, name in FILES.items()}
 PLACE_IS_A_UNIT = (8, 9, 21)
 PLACE_IS_THE_FILE = (1, 4)
@@ -23,14 +23,17 @@ MEANINGS = {
     24: "the day is ill-formed",
     30: "the buffer is shorter than the tidy file",
     31: "the unit to preview isn't in supply",
+    32: "a point of a curve has no row in schedules",
+    33: "a curve doesn't rise from point to point, or has more than ten",
+    34: "a curve ends below ecomin",
     35: "a supplier is given two parents",
     36: "a chain of parents returns to its start",
 }
 
 
 class Refused(Exception):
-    """Why a call was refused: the number by documents 01 and 02, the file (1 constraint, 2 supply, 3 schedules, 5 parents,
-    0 none) and the place in it, a record (the header is 0) or, for 8, 9 and 21, a unit's number."""
+    """Why a call was refused: the number by documents 01 and 02, the file (1 constraint, 2 supply, 3 schedules, 4 curves,
+    5 parents, 0 none) and the place in it, a record (the header is 0) or, for 8, 9 and 21, a unit's number."""
 
     def __init__(self, number, file=0, place=0):
         self.number = number

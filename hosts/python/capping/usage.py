@@ -10,9 +10,10 @@ FOLDER = """
 FOLDER holds constraint.csv, supply.csv and schedules.csv, each of at most
 64 KiB; one that isn't there counts as empty.
 """
-PARENTS = """
-A study and a preview read parents.csv too where FOLDER has it, with the same
-limit: the suppliers that are affiliated. A check takes the three files alone.
+BESIDE = """
+A study and a preview read curves.csv and parents.csv too where FOLDER has them,
+with the same limit: the points of offer curves, and the suppliers that are
+affiliated. A check takes the three files alone.
 """
 PREVIEW = """
 A preview prints the header of the answer file and the row of UNIT, as a study
@@ -49,7 +50,7 @@ LAYOUT = {"formatter_class": argparse.RawDescriptionHelpFormatter, "allow_abbrev
 def read(arguments):
     """What is asked: the name of a command with its folder, day and unit, or with a path and which file it is. Wrong usage and
     --help end the program."""
-    epilog = FOLDER + PARENTS + PREVIEW + DAY + TIDY + REFUSALS
+    epilog = FOLDER + BESIDE + PREVIEW + DAY + TIDY + REFUSALS
     parser = argparse.ArgumentParser(prog="python3 -m capping", description=DESCRIPTION, epilog=epilog, **LAYOUT)
     commands = parser.add_subparsers(dest="command", metavar="COMMAND", required=True)
     _check(commands)
@@ -65,13 +66,13 @@ def read(arguments):
 
 def _check(commands):
     does = "check constraint, supply and schedules of a folder"
-    command = commands.add_parser("check", help=does, description=does, epilog=FOLDER + PARENTS + REFUSALS, **LAYOUT)
+    command = commands.add_parser("check", help=does, description=does, epilog=FOLDER + BESIDE + REFUSALS, **LAYOUT)
     _takes_folder(command)
 
 
 def _study(commands):
     does = "study the files of a folder, and print the answer file"
-    epilog = FOLDER + PARENTS + DAY + REFUSALS
+    epilog = FOLDER + BESIDE + DAY + REFUSALS
     command = commands.add_parser("study", help=does, description=does, epilog=epilog, **LAYOUT)
     _takes_folder(command)
     _takes_day(command, "the day to study on and to move on; fresh if FILE isn't there. Without it, a fresh day")
@@ -79,7 +80,7 @@ def _study(commands):
 
 def _preview(commands):
     does = "look at the row that a study would answer for one unit"
-    epilog = FOLDER + PARENTS + PREVIEW + DAY + REFUSALS
+    epilog = FOLDER + BESIDE + PREVIEW + DAY + REFUSALS
     command = commands.add_parser("preview", help=does, description=does, epilog=epilog, **LAYOUT)
     _takes_unit(command)
     _takes_folder(command)

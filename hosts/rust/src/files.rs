@@ -4,29 +4,37 @@
 /// The files of a study, each as its bytes.
 ///
 /// ```
-/// # let [c, s, h, p] = [b""; 4];
+/// # let [c, s, h, k, p] = [b""; 5];
 /// use capping::Files;
 ///
 /// let alone = Files::new(c, s, h);
 /// let affiliated = alone.with_parents(p);
+/// let all = alone.with_curves(k).with_parents(p);
 /// ```
 #[derive(Clone, Copy, Debug)]
 pub struct Files<'a> {
     pub(crate) constraint: &'a [u8],
     pub(crate) supply: &'a [u8],
     pub(crate) schedules: &'a [u8],
+    pub(crate) curves: &'a [u8],
     pub(crate) parents: &'a [u8],
 }
 
 impl<'a> Files<'a> {
-    /// Constraint, supply and schedules, without parents.
+    /// Constraint, supply and schedules, without curves and parents.
     pub fn new(constraint: &'a [u8], supply: &'a [u8], schedules: &'a [u8]) -> Files<'a> {
         Files {
             constraint,
             supply,
             schedules,
+            curves: &[],
             parents: &[],
         }
+    }
+
+    /// The same with a curves file, whose price at ecomin stands in place of the price in schedules; one of no bytes is none.
+    pub fn with_curves(self, curves: &'a [u8]) -> Files<'a> {
+        Files { curves, ..self }
     }
 
     /// The same with a parents file, which names affiliated suppliers; one of no bytes is none.

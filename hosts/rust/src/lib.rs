@@ -1,19 +1,20 @@
 //! The offer capping engine as Rust programs call it: check three files, study files on a fresh day or on one that goes on, look
 //! at the choice for one unit before, release a unit, hand a file back tidy, test one supplier. The engine keeps nothing, and a day
-//! is its caller's own, so threads may call at the same time. A call takes up to 136 KiB of stack.
+//! is its caller's own, so threads may call at the same time. A call takes up to 136 KiB of stack, and one with
+//! curves up to 304 KiB.
 //!
 //! ```
 //! use capping::Files;
 //!
-//! let [c, s, h, p] = ["constraint.csv", "supply.csv", "schedules.csv", "parents.csv"]
+//! let [c, s, h, k, p] = ["constraint.csv", "supply.csv", "schedules.csv", "curves.csv", "parents.csv"]
 //!     .map(|name| std::fs::read(name).unwrap_or_default());
-//! match capping::study(Files::new(&c, &s, &h).with_parents(&p)) {
+//! match capping::study(Files::new(&c, &s, &h).with_curves(&k).with_parents(&p)) {
 //!     Ok(answer) => print!("{}", String::from_utf8_lossy(&answer)),
 //!     Err(refusal) => println!("{refusal}"),
 //! }
 //! ```
 //!
-//! A day goes from one study to the next. A refused call leaves it as it was. A study without parents just doesn't name them.
+//! A day goes from one study to the next. A refused call leaves it as it was. A study without curves or parents just doesn't name them.
 //!
 //! ```
 //! use capping::{Day, Files};
@@ -51,7 +52,7 @@ pub use words::ParseDayError;
 /// How many bytes the longest answer file has.
 pub const LONGEST_ANSWER: usize = 2799;
 
-/// Checks three files of a study, each as its bytes: the number of the first refusal, 1 to 9, that a study of them without parents
+/// Checks three files of a study, each as its bytes: the number of the first refusal, 1 to 9, that a study of these three alone
 /// gives.
 pub fn check(constraint: &[u8], supply: &[u8], schedules: &[u8]) -> Result<(), u64> {
     match engine::check(constraint, supply, schedules) {

@@ -2,8 +2,8 @@
 use std::error::Error;
 use std::fmt::{self, Display, Formatter};
 
-/// Why a call was refused: the number by documents 01 and 02, the file (1 constraint, 2 supply, 3 schedules, 5 parents, 0 none) and
-/// the place in it, a record (the header is 0) or, for 8, 9 and 21, a unit's number.
+/// Why a call was refused: the number by documents 01 and 02, the file (1 constraint, 2 supply, 3 schedules, 4 curves, 5 parents,
+/// 0 none) and the place in it, a record (the header is 0) or, for 8, 9 and 21, a unit's number.
 #[derive(Clone, Copy, Debug, PartialEq, Eq)]
 pub struct Refusal {
     pub number: u64,
@@ -33,6 +33,9 @@ impl Refusal {
             24 => "the day is ill-formed",
             30 => "the buffer is shorter than the tidy file",
             31 => "the unit to preview isn't in supply",
+            32 => "a point of a curve has no row in schedules",
+            33 => "a curve doesn't rise from point to point, or has more than ten",
+            34 => "a curve ends below ecomin",
             35 => "a supplier is given two parents",
             36 => "a chain of parents returns to its start",
             _ => "there is no such refusal",
@@ -45,6 +48,7 @@ impl Refusal {
             1 => Some("constraint"),
             2 => Some("supply"),
             3 => Some("schedules"),
+            4 => Some("curves"),
             5 => Some("parents"),
             _ => None,
         }

@@ -14,6 +14,7 @@ fn kept() -> Files {
         constraint: format!("{CONSTRAINT}5,1000,300\r\n"),
         supply: format!("{SUPPLY}{SUPPLY_ROWS}"),
         schedules: format!("{SCHEDULES}{ROW_OF_11}{ROW_OF_12}"),
+        curves: String::new(),
         parents: String::new(),
     }
 }

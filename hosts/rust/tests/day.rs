@@ -5,8 +5,9 @@ mod common;
 use std::thread;
 
 use capping::{Day, Kind, ParseDayError, Refusal, Running, DAY_CELLS, LONGEST_ANSWER};
-use common::{crowd, day, refused, with_junk, Files, AFFILIATED_ANSWER, CONSTRAINT, PATTERN};
-use common::{COUNT, JUNK, PLACES, PLACE_CELLS, STARRED_ANSWER, STARRED_DAY};
+use common::{crowd, day, refused, with_junk, Files, AFFILIATED_ANSWER, CONSTRAINT, CURVE_11};
+use common::{COUNT, CURVE_11_ANSWER, JUNK, PATTERN, PLACES, PLACE_CELLS};
+use common::{STARRED_ANSWER, STARRED_DAY};
 
 // Where in a unit's cells its kind stands.
 const KIND: usize = 1;
@@ -110,14 +111,28 @@ fn a_day_goes_from_study_to_study() {
 
 #[test]
 fn affiliated_suppliers_are_tested_as_one() {
-    let files = Files::starred_with("1,2\r\n");
+    let files = Files::starred_with_parents("1,2\r\n");
     let mut day = Day::fresh();
     assert_eq!(study(&mut day, &files).as_deref(), Ok(AFFILIATED_ANSWER));
     assert_eq!(day.to_string(), STARRED_DAY);
     let again = ANSWER_WHILE_RUNNING.replace("14,4,F,5000000,", "14,4,F,0,");
     assert_eq!(study(&mut day, &files), Ok(again));
     assert_eq!(
-        study(&mut day, &Files::starred_with("")).as_deref(),
+        study(&mut day, &Files::starred_with_parents("")).as_deref(),
+        Ok(ANSWER_WHILE_RUNNING)
+    );
+}
+
+#[test]
+fn curves_price_each_study_anew() {
+    let files = Files::starred_with_curves(CURVE_11);
+    let mut day = Day::fresh();
+    assert_eq!(study(&mut day, &files).as_deref(), Ok(CURVE_11_ANSWER));
+    assert_eq!(day.to_string(), STARRED_DAY);
+    let again = ANSWER_WHILE_RUNNING.replace("2,C,830000", "2,C,720000");
+    assert_eq!(study(&mut day, &files), Ok(again));
+    assert_eq!(
+        study(&mut day, &Files::starred()).as_deref(),
         Ok(ANSWER_WHILE_RUNNING)
     );
 }
@@ -167,8 +182,11 @@ fn refused_studies_leave_the_day() {
         constraint: format!("{CONSTRAINT}24,1000,300\r\n"),
         ..Files::starred()
     };
-    let two_parents = Files::starred_with("1,2\r\n1,2\r\n");
-    let ring = Files::starred_with("1,2\r\n2,3\r\n3,2\r\n");
+    let two_parents = Files::starred_with_parents("1,2\r\n1,2\r\n");
+    let ring = Files::starred_with_parents("1,2\r\n2,3\r\n3,2\r\n");
+    let stray_point = Files::starred_with_curves("11,3,5,100,1\r\n");
+    let no_rise = Files::starred_with_curves("11,2,5,100,1\r\n11,2,5,100,2\r\n");
+    let low = Files::starred_with_curves("11,2,5,99,1\r\n");
     let room = STARRED_ANSWER.len();
     let full = format!("n;{}", crowd(61));
     let cases = [
@@ -177,6 +195,9 @@ fn refused_studies_leave_the_day() {
         (&full, &starred, room, refused(22, 0, 0)),
         ("-", &starred, room - 1, refused(10, 0, 0)),
         (STARRED_DAY, &wrong_hour, room, refused(3, 1, 1)),
+        (STARRED_DAY, &stray_point, room, refused(32, 4, 1)),
+        (STARRED_DAY, &no_rise, room, refused(33, 4, 2)),
+        ("6;", &low, room, refused(34, 4, 1)),
         (STARRED_DAY, &two_parents, room, refused(35, 5, 2)),
         ("6;", &ring, room, refused(36, 5, 2)),
     ];

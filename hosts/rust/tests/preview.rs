@@ -6,7 +6,8 @@ use std::hint::black_box;
 use std::thread;
 
 use capping::{Day, Kind, Refusal, Row, Verdict};
-use common::{crowd, day, refused, with_junk, Files, CONSTRAINT, STARRED_ANSWER, STARRED_DAY};
+use common::{crowd, day, refused, with_junk, Files, CONSTRAINT, CURVE_11};
+use common::{STARRED_ANSWER, STARRED_DAY};
 
 /// The refusal that no study has.
 const NOT_IN_SUPPLY: u64 = 31;
@@ -103,9 +104,17 @@ fn kinds_of_the_day() {
 
 #[test]
 fn affiliated_suppliers() {
-    let affiliated = Files::starred_with("1,2\r\n");
+    let affiliated = Files::starred_with_parents("1,2\r\n");
     assert_eq!(text("-", &affiliated, 14), "14,4,F,0,1,M,500000");
     assert_eq!(text("-", &affiliated, 11), "11,1,F,0,2,C,1030000");
+}
+
+#[test]
+fn offer_curves() {
+    let curved = Files::starred_with_curves(CURVE_11);
+    assert_eq!(text("-", &curved, 11), "11,1,F,0,2,C,920000");
+    assert_eq!(text(STARRED_DAY, &curved, 11), "11,1,F,0,2,C,720000");
+    assert_eq!(text("-", &curved, 14), "14,4,F,5000000,1,M,500000");
 }
 
 #[test]
@@ -130,7 +139,8 @@ fn what_a_study_is_refused_with_comes_first() {
         constraint: String::new(),
         ..Files::starred()
     };
-    let ring = Files::starred_with("1,2\r\n2,3\r\n3,2\r\n");
+    let ring = Files::starred_with_parents("1,2\r\n2,3\r\n3,2\r\n");
+    let low = Files::starred_with_curves("11,2,5,99,1\r\n");
     let full = format!("5;{}", crowd(61));
     let cases = [
         ("6;", &starred, refused(20, 0, 0)),
@@ -139,6 +149,7 @@ fn what_a_study_is_refused_with_comes_first() {
         ("24;", &no_hour, refused(24, 0, 0)),
         ("5;12:M:1,11:M:1", &starred, refused(24, 0, 0)),
         (STARRED_DAY, &no_hour, refused(2, 1, 0)),
+        ("6;", &low, refused(34, 4, 1)),
         ("6;", &ring, refused(36, 5, 2)),
     ];
     for (words, files, refusal) in cases {

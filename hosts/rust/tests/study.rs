@@ -20,7 +20,7 @@ fn told(files: Files) -> Refusal {
 
 /// The answer to the starred files with these rows of parents.
 fn answered_with(parents: &str) -> String {
-    let answer = study(Files::starred_with(parents).studied()).expect("accepted");
+    let answer = study(Files::starred_with_parents(parents).studied()).expect("accepted");
     String::from_utf8(answer).expect("an answer is ASCII")
 }
 
@@ -108,7 +108,7 @@ fn refused_parents() {
         ("1,1\r\n", refused(36, 5, 1)),
     ];
     for (parents, refusal) in cases {
-        let (count, buffer) = study_in(LONGEST_ANSWER, &Files::starred_with(parents));
+        let (count, buffer) = study_in(LONGEST_ANSWER, &Files::starred_with_parents(parents));
         assert_eq!(count, Err(refusal), "{parents}");
         assert!(buffer.iter().all(|&byte| byte == PATTERN), "{parents}");
     }
@@ -122,15 +122,15 @@ fn refused_parents() {
 #[test]
 fn refused_parents_in_plain_words() {
     assert_eq!(
-        told(Files::starred_with("1,2\r\n1,2\r\n")).to_string(),
+        told(Files::starred_with_parents("1,2\r\n1,2\r\n")).to_string(),
         "refusal 35: a supplier is given two parents (parents, record 2)"
     );
     assert_eq!(
-        told(Files::starred_with("1,2\r\n2,3\r\n3,2")).to_string(),
+        told(Files::starred_with_parents("1,2\r\n2,3\r\n3,2")).to_string(),
         "refusal 36: a chain of parents returns to its start (parents, record 2)"
     );
     assert_eq!(
-        told(Files::starred_with("1,2\t")).to_string(),
+        told(Files::starred_with_parents("1,2\t")).to_string(),
         "refusal 1: the file isn't CSV by RFC 4180 (parents)"
     );
 }
@@ -160,7 +160,7 @@ fn refused_tests() {
 #[test]
 fn words_for_every_number() {
     let no_such = refused(99, 0, 0).meaning();
-    for number in (1..=11).chain(20..=24).chain([30, 31, 35, 36]) {
+    for number in (1..=11).chain(20..=24).chain(30..=36) {
         assert_ne!(refused(number, 0, 0).meaning(), no_such);
     }
 }

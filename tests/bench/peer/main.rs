@@ -23,6 +23,7 @@ const PEER: Engine = Engine {
         engine.preview(&WholeDay::fresh(), &files, unit).map_or(0, |line| line.cost)
     },
     check: |[constraint, supply, schedules]| u64::from(peer::check(constraint, supply, schedules)),
+    curves: false,
     tidy: Some(|schedules, buffer| {
         let engine = peer::Engine::new(Rules::landed(&[TIDY_FILES]));
         engine.tidy(TidyFile::Schedules, schedules, buffer).unwrap_or(0)

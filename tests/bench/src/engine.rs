@@ -20,6 +20,8 @@ pub struct Engine {
     pub preview: fn(&Files, u64) -> u64,
     /// 0, or the number of the first refusal.
     pub check: fn([&[u8]; 3]) -> u64,
+    /// Whether its study and its preview take curves.
+    pub curves: bool,
     /// Hands a schedules file back tidy: the tidy file's length in the buffer, or 0 where it refuses the file.
     pub tidy: Option<fn(&[u8], &mut [u8]) -> usize>,
     /// How many rounds have one call; a slow engine is spared some.
@@ -38,9 +40,9 @@ pub enum Call {
 impl Call {
     pub const ALL: [Call; 4] = [Call::Study, Call::Preview, Call::Check, Call::Tidy];
 
-    /// Whether the call is timed on a study: one that takes no parents isn't where there are some.
-    pub fn takes(self, study: &Study) -> bool {
-        matches!(self, Call::Study | Call::Preview) || study.parents.is_empty()
+    /// Whether the call is timed on a study: one that takes no other files than three isn't where there are some.
+    fn takes(self, study: &Study) -> bool {
+        matches!(self, Call::Study | Call::Preview) || study.is_alone()
     }
 
     /// How many bytes of a study the call reads.
@@ -71,6 +73,7 @@ impl Engine {
             Ok(()) => 0,
             Err(number) => number,
         },
+        curves: true,
         tidy: Some(|schedules, buffer| capping::tidy_into(File::Schedules, schedules, buffer).unwrap_or(0)),
         rounds_a_call: 1,
     };
@@ -81,6 +84,7 @@ impl Engine {
         study: |files, buffer| Day::fresh().study(files, buffer).1.unwrap_or(0),
         preview: |files, unit| Day::fresh().preview(files, unit).map_or(0, |row| row.chosen.cost),
         check,
+        curves: true,
         tidy: None,
         rounds_a_call: 10,
     };
@@ -88,6 +92,11 @@ impl Engine {
     /// Whether the engine has a call.
     pub fn has(&self, call: Call) -> bool {
         !matches!(call, Call::Tidy) || self.tidy.is_some()
+    }
+
+    /// Whether the engine is asked to make a call on a study.
+    pub fn makes(&self, call: Call, study: &Study) -> bool {
+        self.has(call) && call.takes(study) && (self.curves || study.curves.is_empty())
     }
 
     /// That the engine accepts a study and answers it byte for byte as the model does, that it previews the cost which stands
@@ -128,7 +137,8 @@ impl Engine {
 
 /// The files as the engine that is proved takes them.
 fn lent<'a>(files: &Files<'a>) -> capping::Files<'a> {
-    capping::Files::new(files.constraint, files.supply, files.schedules).with_parents(files.parents)
+    let three = capping::Files::new(files.constraint, files.supply, files.schedules);
+    three.with_curves(files.curves).with_parents(files.parents)
 }
 
 /// The last field of an answer file.
@@ -152,6 +162,26 @@ mod tests {
         assert_eq!(Engine::OURS.compare(&Study::make(16, Layout::Quoted)), Ok(()));
         assert_eq!(Engine::OURS.compare(&Study::make(256, Layout::Affiliated)), Ok(()));
         assert_eq!(Engine::OURS.compare(&Study::make(256, Layout::Longest)), Ok(()));
+        assert_eq!(Engine::OURS.compare(&Study::make(256, Layout::Curves(4))), Ok(()));
+    }
+
+    #[test]
+    fn an_engine_that_leaves_curves_out_is_not_timed() {
+        let alone = |files: &Files, buffer: &mut [u8]| {
+            (Engine::MODEL.study)(&Files { curves: b"", ..*files }, buffer)
+        };
+        let alone = Engine { study: alone, ..Engine::MODEL };
+        assert_eq!(alone.compare(&study()), Ok(()));
+        assert!(alone.compare(&Study::make(256, Layout::Curves(1))).is_err());
+    }
+
+    #[test]
+    fn an_engine_is_asked_for_what_it_has() {
+        let without = Engine { curves: false, ..Engine::MODEL };
+        let (plain, curved) = (study(), Study::make(256, Layout::Curves(1)));
+        assert!(without.makes(Call::Study, &plain) && !without.makes(Call::Study, &curved));
+        assert!(Engine::MODEL.makes(Call::Preview, &curved) && !Engine::MODEL.makes(Call::Check, &curved));
+        assert!(Engine::OURS.makes(Call::Tidy, &plain) && !Engine::MODEL.makes(Call::Tidy, &plain));
     }
 
     #[test]

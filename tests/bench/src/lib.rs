@@ -20,7 +20,7 @@ pub mod picture;
 use std::path::Path;
 use std::process::ExitCode;
 
-use engine::Engine;
+use engine::{Call, Engine};
 
 /// The program: its one argument is where the picture goes.
 pub fn main(peer: Option<Engine>) -> ExitCode {
@@ -42,7 +42,7 @@ fn run(peer: Option<Engine>, picture: &Path) -> Result<(), String> {
     let engines: Vec<Engine> = [Engine::OURS, Engine::MODEL].into_iter().chain(peer).collect();
     let studies = study::make_all();
     for study in &studies {
-        for engine in &engines {
+        for engine in engines.iter().filter(|engine| engine.makes(Call::Study, study)) {
             engine.compare(study)?;
         }
     }

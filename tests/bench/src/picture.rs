@@ -1,5 +1,5 @@
-//! Time against rows as SVG: a line for each engine and call through the medians on the plain studies, both axes
-//! logarithmic.
+//! Time against rows as SVG: a line for each engine and call through the medians on the plain studies, and one on those
+//! with curves, both axes logarithmic.
 
 use std::fmt::Write;
 
@@ -9,7 +9,7 @@ use crate::study::Layout;
 use crate::timing::Measured;
 
 /// The picture, and the plot within it, in pixels.
-const WIDTH: f64 = 840.0;
+const WIDTH: f64 = 890.0;
 const HEIGHT: f64 = 540.0;
 const LEFT: f64 = 90.0;
 const RIGHT: f64 = 650.0;
@@ -24,16 +24,21 @@ const LEGEND: f64 = RIGHT + 24.0;
 const SAMPLE: f64 = 34.0;
 const SPACING: f64 = 24.0;
 
+/// How far a mark reaches from its middle.
+const MARK: f64 = 4.0;
+
 /// A colour for each engine.
 const COLOURS: [&str; 3] = ["#00695c", "#b23c17", "#3457a6"];
 const INK: &str = "#222";
 const GRID: &str = "#e4e4e4";
 
-/// An engine's times of a call: a point is a study's rows and microseconds.
+/// An engine's times of a call on the studies of a layout: a point is a study's rows and microseconds.
+#[derive(Clone)]
 struct Line {
     name: String,
     colour: &'static str,
     call: Call,
+    curves: bool,
     points: Vec<(f64, f64)>,
 }
 
@@ -53,9 +58,10 @@ struct Plot {
 /// The picture of what was measured.
 pub fn draw(engines: &[Engine], measured: &[Measured]) -> String {
     let plain: Vec<&Measured> = measured.iter().filter(|one| one.study.layout == Layout::Plain).collect();
-    let lines = lines(engines, &plain);
+    let curves: Vec<&Measured> = measured.iter().filter(|one| one.study.layout.has_curves()).collect();
+    let lines = [lines(engines, &plain), lines(engines, &curves)].concat();
     let mut plot = Plot::around(&lines);
-    plot.frame(&plain);
+    plot.frame(&[plain, curves].concat());
     for (place, line) in lines.iter().enumerate() {
         plot.line(line);
         plot.legend(place, line);
@@ -63,15 +69,18 @@ pub fn draw(engines: &[Engine], measured: &[Measured]) -> String {
     plot.svg + "</svg>\n"
 }
 
-/// The lines, in the legend's order.
+/// The lines through the studies of a layout, in the legend's order.
 fn lines(engines: &[Engine], measured: &[&Measured]) -> Vec<Line> {
+    let study = measured[0].study;
+    let curves = study.layout.has_curves();
+    let behind = if curves { ", curves" } else { "" };
     let mut lines = Vec::new();
     for (index, engine) in engines.iter().enumerate() {
-        for call in Call::ALL.into_iter().filter(|&call| engine.has(call)) {
+        for call in Call::ALL.into_iter().filter(|&call| engine.makes(call, study)) {
             let time = |one: &Measured| one.times(index, call).median() / MICROSECOND;
             let points = measured.iter().map(|one| (one.study.rows() as f64, time(one))).collect();
-            let name = format!("{} {}", engine.name, call.name());
-            lines.push(Line { name, colour: COLOURS[index], call, points });
+            let name = format!("{} {}{behind}", engine.name, call.name());
+            lines.push(Line { name, colour: COLOURS[index], call, curves, points });
         }
     }
     lines
@@ -116,7 +125,7 @@ impl Plot {
     /// The title, the axes with their labels, and a grid at each study and each power of ten.
     fn frame(&mut self, measured: &[&Measured]) {
         let (middle, centre) = ((LEFT + RIGHT) / 2.0, (TOP + BOTTOM) / 2.0);
-        self.text(middle, TOP - 20.0, "middle", "Time of a call by rows, files in plain layout");
+        self.text(middle, TOP - 20.0, "middle", "Time of a call by rows, no field quoted, unit by unit");
         for rows in measured.iter().map(|one| one.study.rows()) {
             let x = self.rows.place(rows as f64);
             self.stroke([x, TOP, x, BOTTOM], GRID);
@@ -129,7 +138,12 @@ impl Plot {
         }
         self.stroke([LEFT, BOTTOM, RIGHT, BOTTOM], INK);
         self.stroke([LEFT, TOP, LEFT, BOTTOM], INK);
-        self.text(middle, BOTTOM + 48.0, "middle", "rows of supply and schedules (count, logarithmic)");
+        self.text(
+            middle,
+            BOTTOM + 48.0,
+            "middle",
+            "rows of supply, schedules and curves (count, logarithmic)",
+        );
         let _ = write!(self.svg, "<g transform=\"translate(24 {centre}) rotate(-90)\">");
         self.text(0.0, 0.0, "middle", "median time of a call (microseconds, logarithmic)");
         self.svg += "</g>\n";
@@ -148,7 +162,8 @@ impl Plot {
         self.text(LEGEND + SAMPLE + 12.0, y + 5.0, "start", &line.name);
     }
 
-    /// Dots and a line through them: filled and unbroken for the study, hollow and broken for the others.
+    /// Dots, or squares for studies with curves, and a line through them: filled and unbroken for the study, hollow and
+    /// broken for the others.
     fn trace(&mut self, places: &[(f64, f64)], line: &Line) {
         let colour = line.colour;
         let (dashes, fill) = match line.call {
@@ -164,12 +179,9 @@ impl Plot {
              stroke-dasharray=\"{dashes}\"/>",
             path.join(" ")
         );
-        for (x, y) in places {
-            let _ = writeln!(
-                self.svg,
-                "<circle cx=\"{x:.1}\" cy=\"{y:.1}\" r=\"4\" fill=\"{fill}\" stroke=\"{colour}\" \
-                 stroke-width=\"2\"/>"
-            );
+        for &(x, y) in places {
+            let shape = mark(line.curves, x, y);
+            let _ = writeln!(self.svg, "<{shape} fill=\"{fill}\" stroke=\"{colour}\" stroke-width=\"2\"/>");
         }
     }
 
@@ -183,6 +195,15 @@ impl Plot {
     fn text(&mut self, x: f64, y: f64, anchor: &str, text: &str) {
         let _ = writeln!(self.svg, "<text x=\"{x:.1}\" y=\"{y:.1}\" text-anchor=\"{anchor}\">{text}</text>");
     }
+}
+
+/// The mark of a study at a place, without its colours.
+fn mark(curves: bool, x: f64, y: f64) -> String {
+    if !curves {
+        return format!("circle cx=\"{x:.1}\" cy=\"{y:.1}\" r=\"{MARK}\"");
+    }
+    let (left, top, side) = (x - MARK, y - MARK, 2.0 * MARK);
+    format!("rect x=\"{left:.1}\" y=\"{top:.1}\" width=\"{side}\" height=\"{side}\"")
 }
 
 #[cfg(test)]

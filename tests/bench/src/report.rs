@@ -3,7 +3,7 @@
 use std::fmt::Write;
 
 use crate::engine::{Call, Engine};
-use crate::timing::Measured;
+use crate::timing::{Measured, Times};
 
 /// Nanoseconds of a microsecond.
 pub const MICROSECOND: f64 = 1_000.0;
@@ -27,7 +27,7 @@ fn times(call: Call, engines: &[Engine], measured: &[Measured]) -> String {
     let calls: Vec<String> = engines.iter().map(calls).collect();
     let (name, calls) = (call.name(), calls.join(", "));
     let mut table = format!("{name}: microseconds of a call, median and least (calls: {calls})\n");
-    let _ = write!(table, "{:<10}{:>6}{:>10}{:>8}", "layout", "supply", "schedules", "bytes");
+    let _ = write!(table, "{:<10}{:>6}{:>10}{:>8}{:>8}", "layout", "supply", "schedules", "points", "bytes");
     for (_, engine) in &engines {
         let _ = write!(table, "{:>12}{:>10}", engine.name, "least");
     }
@@ -35,7 +35,7 @@ fn times(call: Call, engines: &[Engine], measured: &[Measured]) -> String {
         let _ = write!(table, "{:>12}", format!("ours/{}", engine.name));
     }
     table += "     ns/byte\n";
-    for measured in measured.iter().filter(|one| call.takes(one.study)) {
+    for measured in measured.iter().filter(|one| engines[OURS].1.makes(call, one.study)) {
         table += &line(call, &engines, measured);
     }
     table
@@ -45,23 +45,33 @@ fn times(call: Call, engines: &[Engine], measured: &[Measured]) -> String {
 fn line(call: Call, engines: &[(usize, &Engine)], measured: &Measured) -> String {
     let study = measured.study;
     let (layout, supply, schedules) = (study.layout.name(), study.supply_rows, study.schedule_rows);
-    let bytes = call.bytes(study);
-    let mut line = format!("{layout:<10}{supply:>6}{schedules:>10}{bytes:>8}");
-    for &(engine, _) in engines {
-        let times = measured.times(engine, call);
-        let _ = write!(line, "{:>12.2}{:>10.2}", times.median() / MICROSECOND, times.least() / MICROSECOND);
+    let (points, bytes) = (study.points, call.bytes(study));
+    let mut line = format!("{layout:<10}{supply:>6}{schedules:>10}{points:>8}{bytes:>8}");
+    for &(index, engine) in engines {
+        line += &match engine.makes(call, study) {
+            true => median_and_least(measured.times(index, call)),
+            false => format!("{:>12}{:>10}", "-", "-"),
+        };
     }
     let ours = measured.times(OURS, call).median();
-    for &(engine, _) in &engines[1..] {
-        let _ = write!(line, "{:>12.3}", ours / measured.times(engine, call).median());
+    for &(index, engine) in &engines[1..] {
+        line += &match engine.makes(call, study) {
+            true => format!("{:>12.3}", ours / measured.times(index, call).median()),
+            false => format!("{:>12}", "-"),
+        };
     }
     let _ = writeln!(line, "{:>12.2}", ours / bytes as f64);
     line
 }
 
+fn median_and_least(times: &Times) -> String {
+    format!("{:>12.2}{:>10.2}", times.median() / MICROSECOND, times.least() / MICROSECOND)
+}
+
 /// How the times grow, layout by layout of several sizes.
 fn growth(engines: &[Engine], measured: &[Measured]) -> String {
-    let layouts = measured.chunk_by(|a, b| a.study.layout == b.study.layout).filter(|sizes| sizes.len() > 1);
+    let name = |one: &Measured| one.study.layout.name();
+    let layouts = measured.chunk_by(|a, b| name(a) == name(b)).filter(|sizes| sizes.len() > 1);
     let tables: String = layouts.map(|sizes| growth_in_layout(engines, sizes)).collect();
     format!("growth: the power of the rows by which the median grows from size to size\n{tables}")
 }
@@ -76,7 +86,7 @@ fn growth_in_layout(engines: &[Engine], sizes: &[Measured]) -> String {
         format!("{:>12}", format!("{}-{}", from.study.rows(), to.study.rows()))
     });
     for (index, engine) in engines.iter().enumerate() {
-        for call in Call::ALL.into_iter().filter(|&call| engine.has(call)) {
+        for call in Call::ALL.into_iter().filter(|&call| engine.makes(call, sizes[0].study)) {
             table += &line(format!("  {} {}", engine.name, call.name()), &|from, to| {
                 format!("{:>12.2}", power(index, call, from, to))
             });

@@ -1,7 +1,7 @@
 //! The studies: markets made up from a seed as real ones are, of several sizes and in three layouts, and the largest
-//! with parents and with the longest schedules. A unit has a few segments of rising cost, a market-based schedule
-//! beside its cost-based ones, and some distance to the constraint. The relief is such that suppliers pass and fail,
-//! as far as there are enough of them.
+//! with parents, with the longest schedules and with curves of several sizes. A unit has a few segments of rising cost,
+//! a market-based schedule beside its cost-based ones, and some distance to the constraint. The relief is such that
+//! suppliers pass and fail, as far as there are enough of them.
 
 use std::collections::BTreeMap;
 use std::fmt::{self, Display, Formatter};
@@ -27,6 +27,10 @@ const UNITS_OF_A_SUPPLIER: usize = 2;
 /// Suppliers that have one head, each through a parent of its own: the 32 of the largest study have 64 parents then.
 const SUPPLIERS_OF_A_GROUP: usize = 2;
 
+/// Points of each schedule row of the largest study, by the sizes of its curves; with the last there are 4,096, the most
+/// that there may be.
+const POINTS_OF_A_ROW: [u64; 3] = [1, 2, 4];
+
 /// The largest number of a supplier.
 const LAST_SUPPLIER: u64 = 999;
 
@@ -40,6 +44,8 @@ const LATE_HOUR: u64 = 16;
 const HOURS: u64 = 24;
 
 const CUTOFF: u64 = 300;
+
+const CURVES_HEADER: &str = "unit,schedule,hour,mw,price\r\n";
 
 /// "The need is relief × 10000."
 const NEED_OF_A_RELIEF: u64 = 10_000;
@@ -57,10 +63,12 @@ pub enum Layout {
     Affiliated,
     /// Unit by unit, no field quoted, and every field of the schedules as long as it may be.
     Longest,
+    /// Unit by unit, no field quoted, and beside them a curve of so many points for each schedule row.
+    Curves(u64),
 }
 
 impl Layout {
-    /// The layouts of all sizes, without parents.
+    /// The layouts of all sizes, with nothing beside the three files.
     pub const ALONE: [Layout; 3] = [Layout::Plain, Layout::Shuffled, Layout::Quoted];
 
     pub fn name(self) -> &'static str {
@@ -70,7 +78,12 @@ impl Layout {
             Layout::Quoted => "quoted",
             Layout::Affiliated => "parents",
             Layout::Longest => "longest",
+            Layout::Curves(_) => "curves",
         }
+    }
+
+    pub fn has_curves(self) -> bool {
+        matches!(self, Layout::Curves(_))
     }
 }
 
@@ -79,9 +92,11 @@ pub struct Study {
     pub layout: Layout,
     pub supply_rows: usize,
     pub schedule_rows: usize,
+    pub points: usize,
     /// The largest number of a unit, which has the last row of the answer.
     pub last_unit: u64,
     pub files: ThreeFiles,
+    pub curves: Vec<u8>,
     pub parents: Vec<u8>,
     /// The schedules unquoted, which is what they are tidied to.
     pub tidy_schedules: Vec<u8>,
@@ -91,7 +106,8 @@ pub struct Study {
 pub fn make_all() -> Vec<Study> {
     let sizes = |layout| SUPPLY_ROWS.map(|supply_rows| Study::make(supply_rows, layout));
     let largest = [Layout::Affiliated, Layout::Longest].map(|layout| Study::make(MOST_SUPPLY_ROWS, layout));
-    Layout::ALONE.into_iter().flat_map(sizes).chain(largest).collect()
+    let curves = POINTS_OF_A_ROW.map(|points| Study::make(MOST_SUPPLY_ROWS, Layout::Curves(points)));
+    Layout::ALONE.into_iter().flat_map(sizes).chain(largest).chain(curves).collect()
 }
 
 impl Study {
@@ -99,6 +115,7 @@ impl Study {
     pub fn make(supply_rows: usize, layout: Layout) -> Study {
         let random = &mut Random::of(SEED, supply_rows as u64);
         let mut filing = make_filing(supply_rows / SEGMENTS, random);
+        let mut points = Vec::new();
         match layout {
             Layout::Plain | Layout::Quoted => {}
             Layout::Shuffled => {
@@ -107,12 +124,13 @@ impl Study {
             }
             Layout::Affiliated => affiliate(&mut filing, random),
             Layout::Longest => lengthen(&mut filing),
+            Layout::Curves(of_a_row) => points = make_points(&filing.schedules, of_a_row, random),
         }
-        Study::of(&filing, layout)
+        Study::of(&filing, &points, layout)
     }
 
-    /// The study of some rows.
-    fn of(filing: &Filing, layout: Layout) -> Study {
+    /// The study of some rows, with the points of curves as records.
+    fn of(filing: &Filing, points: &[String], layout: Layout) -> Study {
         let sheets = [
             Sheet::constraint(&filing.constraint),
             Sheet::supply(&filing.supply),
@@ -123,31 +141,48 @@ impl Study {
             Layout::Affiliated => written(Sheet::parents(&filing.parents)),
             _ => Vec::new(),
         };
-        let (supply_rows, schedule_rows) = (filing.supply.len(), filing.schedules.len());
+        let curves = match layout {
+            Layout::Curves(_) => [CURVES_HEADER, &points.concat()].concat().into_bytes(),
+            _ => Vec::new(),
+        };
         let last_unit = filing.units().into_iter().max().unwrap_or_default();
         let tidy_schedules = Sheet::schedules(&filing.schedules).join(|_| false);
-        let files = ThreeFiles(sheets.map(written));
-        Study { layout, supply_rows, schedule_rows, last_unit, files, parents, tidy_schedules }
+        Study {
+            layout,
+            supply_rows: filing.supply.len(),
+            schedule_rows: filing.schedules.len(),
+            points: points.len(),
+            last_unit,
+            files: ThreeFiles(sheets.map(written)),
+            curves,
+            parents,
+            tidy_schedules,
+        }
     }
 
     /// The files as a study takes them.
     pub fn lend(&self) -> Files<'_> {
         let [constraint, supply, schedules] = self.files.lend();
-        Files { constraint, supply, schedules, parents: &self.parents }
+        Files { constraint, supply, schedules, curves: &self.curves, parents: &self.parents }
     }
 
     pub fn rows(&self) -> usize {
-        self.supply_rows + self.schedule_rows
+        self.supply_rows + self.schedule_rows + self.points
     }
 
     pub fn bytes(&self) -> usize {
-        self.files.0.iter().map(Vec::len).sum::<usize>() + self.parents.len()
+        self.files.0.iter().map(Vec::len).sum::<usize>() + self.curves.len() + self.parents.len()
+    }
+
+    /// Whether nothing is beside the three files.
+    pub fn is_alone(&self) -> bool {
+        self.curves.is_empty() && self.parents.is_empty()
     }
 }
 
 impl Display for Study {
     fn fmt(&self, out: &mut Formatter) -> fmt::Result {
-        write!(out, "{} {}/{}", self.layout.name(), self.supply_rows, self.schedule_rows)
+        write!(out, "{} {}/{}/{}", self.layout.name(), self.supply_rows, self.schedule_rows, self.points)
     }
 }
 
@@ -157,7 +192,8 @@ fn make_filing(units: usize, random: &mut Random) -> Filing {
     let mut numbers = random.distinct(units, 1, 9_999);
     numbers.sort();
     let constraint = Constraint { hour: HOUR, relief: 1, cutoff: CUTOFF };
-    let mut filing = Filing { constraint, supply: Vec::new(), schedules: Vec::new(), parents: Vec::new() };
+    let (supply, schedules, curves, parents) = (Vec::new(), Vec::new(), Vec::new(), Vec::new());
+    let mut filing = Filing { constraint, supply, schedules, curves, parents };
     for (index, unit) in numbers.into_iter().enumerate() {
         let cost = random.between(1_800, 6_000);
         filing.supply.extend(make_segments(unit, suppliers[index % suppliers.len()], cost, random));
@@ -179,6 +215,20 @@ fn affiliate(filing: &mut Filing, random: &mut Random) {
         filing.parents.extend([Parent { supplier, parent }, Parent { supplier: parent, parent: head }]);
     }
     filing.constraint.relief = choose_relief(filing);
+}
+
+/// The points of a curve for each schedule row, as records. They rise in even steps of mw and price, and the last has
+/// ecomin, at another price than the row's own.
+fn make_points(rows: &[Schedule], of_a_row: u64, random: &mut Random) -> Vec<String> {
+    let mut records = Vec::new();
+    for &Schedule { unit, schedule, hour, ecomin, price, .. } in rows {
+        let highest = price * random.between(90, 115) / 100;
+        for nth in 1..=of_a_row {
+            let (mw, price) = (ecomin * nth / of_a_row, highest * nth / of_a_row);
+            records.push(format!("{unit},{schedule},{hour},{mw},{price}\r\n"));
+        }
+    }
+    records
 }
 
 /// Makes every field of the schedules as long as it may be: the units have numbers of four digits then, and two
@@ -279,6 +329,16 @@ mod tests {
         assert_eq!((filing.supply.len(), filing.schedules.len(), filing.parents.len()), (256, 1_024, 64));
         let heads: BTreeSet<u64> = filing.heads().into_values().collect();
         assert_eq!((filing.suppliers().len(), heads.len()), (32, 16));
+    }
+
+    #[test]
+    fn the_largest_curves_have_as_many_points_as_there_may_be() {
+        let studies = POINTS_OF_A_ROW.map(|points| Study::make(256, Layout::Curves(points)));
+        assert_eq!(studies.each_ref().map(|study| study.points), [1_024, 2_048, 4_096]);
+        assert_eq!(studies.each_ref().map(Study::rows), [2_304, 3_328, 5_376]);
+        for study in studies {
+            assert_eq!(read(&study).schedules.len(), 1_024);
+        }
     }
 
     #[test]

@@ -1,5 +1,5 @@
 //! The rounds: in each, every engine studies every study once and previews its last unit, and checks it and tidies its
-//! schedules where it has no parents, so that a load of the machine hits all alike.
+//! schedules where nothing is beside the three files, so that a load of the machine hits all alike.
 
 use std::hint::black_box;
 use std::time::{Duration, Instant};
@@ -63,19 +63,20 @@ pub fn measure<'a>(engines: &[Engine], studies: &'a [Study]) -> Vec<Measured<'a>
 
 /// The calls that one round has on one study.
 fn measure_round(round: usize, engines: &[Engine], measured: &mut Measured) {
-    let (files, three) = (measured.study.lend(), measured.study.files.lend());
+    let study = measured.study;
+    let (files, three) = (study.lend(), study.files.lend());
     let (mut buffer, mut tidy_buffer) = ([0; LONGEST], [0; LONGEST_TIDY]);
     for (engine, times) in engines.iter().zip(&mut measured.times) {
-        if !round.is_multiple_of(engine.rounds_a_call) {
+        if !round.is_multiple_of(engine.rounds_a_call) || !engine.makes(Call::Study, study) {
             continue;
         }
         times[Call::Study as usize].add(time(|| (engine.study)(black_box(&files), black_box(&mut buffer))));
-        let preview = || (engine.preview)(black_box(&files), black_box(measured.study.last_unit));
+        let preview = || (engine.preview)(black_box(&files), black_box(study.last_unit));
         times[Call::Preview as usize].add(time(preview));
-        if Call::Check.takes(measured.study) {
+        if engine.makes(Call::Check, study) {
             times[Call::Check as usize].add(time(|| (engine.check)(black_box(three))));
         }
-        if let Some(tidy) = engine.tidy.filter(|_| Call::Tidy.takes(measured.study)) {
+        if let Some(tidy) = engine.tidy.filter(|_| engine.makes(Call::Tidy, study)) {
             let call = || tidy(black_box(files.schedules), black_box(&mut tidy_buffer));
             times[Call::Tidy as usize].add(time(call));
         }

@@ -85,13 +85,13 @@ mod tests {
     #[test]
     fn only_accepted_studies_call_for_previews() {
         let mut previews = Previews::default();
-        let refused = Asked { index: 0, line: b"study - . . . . 0".to_vec() };
+        let refused = Asked { index: 0, line: b"study - . . . . . 0".to_vec() };
         previews.add(&refused, "no 2 1 0");
         previews.add(&Asked { index: 1, line: b"release - 1".to_vec() }, "ok -");
         assert!(previews.asked.is_empty());
         let header_and_row = "ok 680d0a37382c390d0a 5;78:M:1";
-        previews.add(&Asked { index: 2, line: b"study - 61 62 63 . 9".to_vec() }, header_and_row);
-        assert_eq!(previews.asked[0].line, b"preview - 61 62 63 . 78");
+        previews.add(&Asked { index: 2, line: b"study - 61 62 63 64 . 9".to_vec() }, header_and_row);
+        assert_eq!(previews.asked[0].line, b"preview - 61 62 63 64 . 78");
         assert_eq!(previews.expected, ["ok 78,9"]);
     }
 }

@@ -7,7 +7,7 @@ use capping_model::case::{read_hex, Case};
 use crate::run::{Asked, Run};
 
 /// The files of a study or a preview; a check has the first three, and one of these is handed back tidy.
-const FILES: [&str; 4] = ["constraint", "supply", "schedules", "parents"];
+const FILES: [&str; 5] = ["constraint", "supply", "schedules", "curves", "parents"];
 
 /// A difference: the case and both answers.
 pub fn show_difference(run: &Run, asked: &Asked, expected: &str, answer: &str) -> String {
@@ -84,8 +84,9 @@ mod tests {
     #[test]
     fn every_file_of_a_case_is_shown() {
         let files = "constraint\n  a\nsupply\n  b\nschedules\n  c\n";
-        assert!(show("study - 61 62 63 64 0").ends_with(&format!("{files}parents\n  d\n")));
-        assert!(show("preview - 61 62 63 64 11").ends_with(&format!("{files}parents\n  d\n")));
+        let of_a_study = format!("{files}curves\n  d\nparents\n  e\n");
+        assert!(show("study - 61 62 63 64 65 0").ends_with(&of_a_study));
+        assert!(show("preview - 61 62 63 64 65 11").ends_with(&of_a_study));
         assert!(show("check 61 62 63").ends_with(files));
         assert!(show("tidy 1 61 0").ends_with("tidy 1 61 0\nconstraint\n  a\n"));
         assert!(show("tidy 3 61 0").ends_with("tidy 3 61 0\nschedules\n  a\n"));

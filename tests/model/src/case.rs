@@ -1,19 +1,20 @@
 //! Cases as lines: what a program is asked, one a line, and what it answers, one a line.
 //!
 //! ```text
-//! study DAY C S H P BUFLEN   ok ANSWERHEX DAY   or   no NUMBER FILE PLACE
-//! release DAY UNIT           ok DAY             or   no NUMBER FILE PLACE
-//! test NEED PLACE a,b,c      ok LEFT P   or   ok LEFT F   or   no 11 0 0
-//! check C S H                NUMBER
-//! tidy N FILE BUFLEN         ok TIDYHEX         or   no NUMBER FILE PLACE
-//! preview DAY C S H P UNIT   ok ROW             or   no NUMBER FILE PLACE
+//! study DAY C S H K P BUFLEN   ok ANSWERHEX DAY   or   no NUMBER FILE PLACE
+//! release DAY UNIT             ok DAY             or   no NUMBER FILE PLACE
+//! test NEED PLACE a,b,c        ok LEFT P   or   ok LEFT F   or   no 11 0 0
+//! check C S H                  NUMBER
+//! tidy N FILE BUFLEN           ok TIDYHEX         or   no NUMBER FILE PLACE
+//! preview DAY C S H K P UNIT   ok ROW             or   no NUMBER FILE PLACE
 //! ```
 //!
 //! DAY is `-` for a fresh day or `H;u:k:s,u:k:s`: H the hour or `n` for none, u a unit, k its kind, s
-//! its schedule. C, S, H and P are the files constraint, supply, schedules and parents in lower-case
-//! hex, `.` for an empty file; `.` stands for no amounts too. FILE is constraint, supply or schedules in
-//! the same form, and N its number. ROW is a row of the answer file as it stands there, without its end:
-//! `U,S,V,LEFT,SCHEDULE,KIND,COST`. Whatever isn't in this form is answered by `unreadable case`.
+//! its schedule. C, S, H, K and P are the files constraint, supply, schedules, curves and parents in
+//! lower-case hex, `.` for an empty file; `.` stands for no amounts too. FILE is constraint, supply or
+//! schedules in the same form, and N its number. ROW is a row of the answer file as it stands there,
+//! without its end: `U,S,V,LEFT,SCHEDULE,KIND,COST`. Whatever isn't in this form is answered by
+//! `unreadable case`.
 
 use std::fmt::{self, Display, Formatter, Write};
 
@@ -51,14 +52,15 @@ impl ThreeFiles {
     }
 }
 
-/// The bytes of a study's files: constraint, supply, schedules and parents.
+/// The bytes of a study's files: constraint, supply, schedules, curves and parents.
 #[derive(Clone, Debug, PartialEq, Eq)]
-pub struct StudyFiles(pub [Vec<u8>; 4]);
+pub struct StudyFiles(pub [Vec<u8>; 5]);
 
 impl StudyFiles {
-    /// Where schedules and parents stand among them.
+    /// Where schedules, curves and parents stand among them.
     pub const SCHEDULES: usize = 2;
-    pub const PARENTS: usize = 3;
+    pub const CURVES: usize = 3;
+    pub const PARENTS: usize = 4;
 
     /// The same files, but for one that is empty.
     pub fn without(mut self, place: usize) -> StudyFiles {
@@ -68,8 +70,8 @@ impl StudyFiles {
 
     /// The files as a study takes them.
     pub fn lend(&self) -> Files<'_> {
-        let [constraint, supply, schedules, parents] = self.0.each_ref().map(Vec::as_slice);
-        Files { constraint, supply, schedules, parents }
+        let [constraint, supply, schedules, curves, parents] = self.0.each_ref().map(Vec::as_slice);
+        Files { constraint, supply, schedules, curves, parents }
     }
 }
 
@@ -98,9 +100,9 @@ impl Case {
         let line = std::str::from_utf8(line).ok()?;
         let words: Vec<&str> = line.split(' ').collect();
         match words[..] {
-            ["study", day, c, s, h, p, buffer] => Some(Case::Study {
+            ["study", day, c, s, h, k, p, buffer] => Some(Case::Study {
                 day: read_day(day)?,
-                files: StudyFiles(read_files([c, s, h, p])?),
+                files: StudyFiles(read_files([c, s, h, k, p])?),
                 buffer: read_length(buffer, LONGEST_BUFFER)?,
             }),
             ["release", day, unit] => Some(Case::Release { day: read_day(day)?, unit: read_number(unit)? }),
@@ -115,9 +117,9 @@ impl Case {
                 file: read_hex(file)?,
                 buffer: read_length(buffer, LONGEST_TIDY_BUFFER)?,
             }),
-            ["preview", day, c, s, h, p, unit] => Some(Case::Preview {
+            ["preview", day, c, s, h, k, p, unit] => Some(Case::Preview {
                 day: read_day(day)?,
-                files: StudyFiles(read_files([c, s, h, p])?),
+                files: StudyFiles(read_files([c, s, h, k, p])?),
                 unit: read_number(unit)?,
             }),
             _ => None,
@@ -349,7 +351,7 @@ mod tests {
         assert_eq!(ask("test 3 3 4,3,2,1"), "ok 2 F");
         assert_eq!(ask("test 3 0 ."), "no 11 0 0");
         assert_eq!(ask("check . . ."), "2");
-        assert_eq!(ask("study - . . . . 4096"), "no 2 1 0");
+        assert_eq!(ask("study - . . . . . 4096"), "no 2 1 0");
     }
 
     /// "hour,relief,cutoff" and a row, in hex.
@@ -370,12 +372,18 @@ mod tests {
 
     #[test]
     fn previews() {
-        let bytes = Bytes::starred();
-        let [c, s, h] = bytes.three().map(Hex);
-        assert_eq!(ask(&format!("preview - {c} {s} {h} . 14")), "ok 14,4,F,5000000,1,M,500000");
-        assert_eq!(ask(&format!("preview - {c} {s} {h} . 15")), "no 31 0 0");
-        assert_eq!(ask(&format!("preview 6; {c} {s} {h} . 15")), "no 20 0 0");
-        assert_eq!(ask("preview - . . . . 0"), "no 2 1 0");
+        let files = Bytes::starred().words();
+        assert_eq!(ask(&format!("preview - {files} 14")), "ok 14,4,F,5000000,1,M,500000");
+        assert_eq!(ask(&format!("preview - {files} 15")), "no 31 0 0");
+        assert_eq!(ask(&format!("preview 6; {files} 15")), "no 20 0 0");
+        assert_eq!(ask("preview - . . . . . 0"), "no 2 1 0");
+    }
+
+    #[test]
+    fn curves_stand_before_parents() {
+        let files = Bytes::starred().with_curves(&["11,2,6,1,1"]).with_parents(&["1,1"]).words();
+        assert_eq!(ask(&format!("study - {files} 0")), "no 32 4 1");
+        assert_eq!(ask(&format!("preview - {files} 11")), "no 32 4 1");
     }
 
     #[test]
@@ -399,12 +407,13 @@ mod tests {
             "",
             " ",
             "study",
-            "study - . . . .",
-            "study - . . . 1",
-            "study - . . . . 4097",
-            "study - . . . . 1 1",
-            "study - 0 . . . 1",
-            "study - . . . 0g 1",
+            "study - . . . . .",
+            "study - . . . . 1",
+            "study - . . . . . 4097",
+            "study - . . . . . 1 1",
+            "study - 0 . . . . 1",
+            "study - . . . 0 . 1",
+            "study - . . . . 0g 1",
             "release 5;18446744073709551616:C:1 7",
             "release 5;1:X:1 7",
             "release 5;1:M 7",
@@ -426,14 +435,15 @@ mod tests {
             "tidy 1 . 65537",
             "tidy 1 . . 1",
             "preview",
-            "preview - . . . 11",
-            "preview - . . . .",
+            "preview - . . . . 11",
             "preview - . . . . .",
-            "preview - . . . . 011",
-            "preview - . . . . 18446744073709551616",
-            "preview - . . . . 11 4096",
-            "preview - . . . 0 11",
-            "preview 5 . . . . 11",
+            "preview - . . . . . .",
+            "preview - . . . . . 011",
+            "preview - . . . . . 18446744073709551616",
+            "preview - . . . . . 11 4096",
+            "preview - . . . 0 . 11",
+            "preview - . . . . 0 11",
+            "preview 5 . . . . . 11",
         ];
         for line in lines {
             assert_eq!(ask(line), UNREADABLE, "{line}");
@@ -444,14 +454,14 @@ mod tests {
     #[test]
     fn cases_print_as_they_are_read() {
         for line in [
-            "study - 0aff . 00 0d0a 12",
+            "study - 0aff . 00 31 0d0a 12",
             "release 7;1:M:2,3:C:4 5",
             "test 1 2 3,4",
             "test 0 0 .",
             "check . . 61",
             "tidy 1 . 0",
             "tidy 3 0aff 65536",
-            "preview 7;1:M:2 0aff . 00 0d0a 18446744073709551615",
+            "preview 7;1:M:2 0aff . 00 31 0d0a 18446744073709551615",
         ] {
             assert_eq!(Case::read(line.as_bytes()).unwrap().to_string(), line);
         }

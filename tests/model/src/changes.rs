@@ -77,7 +77,8 @@ fn neighbours(field: &[u8]) -> Vec<Vec<u8>> {
     }
 }
 
-/// Numbers that would be true of another member of the group, another removal or another schedule.
+/// Numbers that would be true of another member of the group, another removal, another schedule or another
+/// price.
 fn elsewhere(column: usize, index: usize, judge: &Judge) -> BTreeSet<u64> {
     match column {
         SUPPLIER => judge.group(index).clone(),
@@ -91,7 +92,7 @@ fn elsewhere(column: usize, index: usize, judge: &Judge) -> BTreeSet<u64> {
 /// A row with another schedule of its unit, under its own kind and cost.
 fn choices_changed(answer: &[u8], row: &Row, index: usize, judge: &Judge) -> Vec<Vec<u8>> {
     let at = row[SCHEDULE].start..row[COST].end;
-    let choices = judge.schedules(index).iter();
+    let choices = judge.schedules(index).into_iter();
     let texts = choices.map(|other| format!("{},{},{}", other.number, other.kind.letter(), other.cost));
     texts.map(|text| with(answer, at.clone(), text.as_bytes())).collect()
 }
@@ -159,7 +160,9 @@ mod tests {
 
     #[test]
     fn every_change_of_the_starred_answer_is_rejected() {
-        for bytes in [Bytes::starred(), Bytes::starred().with_parents(&["1,2", "4,900"])] {
+        let (parents, curves) = (&["1,2", "4,900"], &["11,2,5,100,2000", "12,1,5,100,4000"]);
+        let with_all = Bytes::starred().with_curves(curves).with_parents(parents);
+        for bytes in [Bytes::starred(), Bytes::starred().with_parents(parents), with_all] {
             let mut buffer = [0; LONGEST];
             let length = Day::fresh().study(&bytes.files(), &mut buffer).1.unwrap();
             let judge = Judge::of(&bytes.files(), &Day::fresh()).unwrap();
@@ -182,6 +185,14 @@ mod tests {
         for row in ["\r\n14,900,F,0,1,M,500000\r\n", "\r\n14,4,F,5000000,1,M,500000\r\n"] {
             assert!(changes.iter().any(|change| change.ends_with(row.as_bytes())), "{row}");
         }
+    }
+
+    #[test]
+    fn the_cost_by_the_price_column_is_among_the_changes() {
+        let bytes = Bytes::starred().with_curves(&["11,2,5,100,2000"]);
+        let judge = Judge::of(&bytes.files(), &Day::fresh()).unwrap();
+        let changes = changed(b"header\r\n11,1,F,0,2,C,920000\r\n", &judge);
+        assert!(changes.iter().any(|change| change == b"header\r\n11,1,F,0,2,C,1030000\r\n"));
     }
 
     #[test]

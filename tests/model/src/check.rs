@@ -5,9 +5,9 @@ use crate::rules::{Files, Filing};
 /// "A check for host programs in C or Rust takes the three files as bytes and answers 0 or the
 /// number of the first refusal, as far as 9 in the order below, that a study of them gives."
 ///
-/// It "goes on taking three", and a study of three files is one without parents.
+/// It "goes on taking three", and a study of three files is one without curves and parents.
 pub fn check([constraint, supply, schedules]: [&[u8]; 3]) -> u64 {
-    match Filing::read(&Files { constraint, supply, schedules, parents: b"" }) {
+    match Filing::read(&Files { constraint, supply, schedules, curves: b"", parents: b"" }) {
         Ok(_) => 0,
         Err(refusal) => refusal.number,
     }

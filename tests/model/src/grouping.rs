@@ -53,14 +53,12 @@ fn has_absent_group(filing: &Filing) -> bool {
 #[cfg(test)]
 mod tests {
     use super::*;
-    use crate::case::Hex;
     use crate::study::tests::Bytes;
 
     /// The grouping of the starred files with parents.
     fn grouping(rows: &[&str]) -> Option<Grouping> {
         let bytes = Bytes::starred().with_parents(rows);
-        let [c, s, h] = bytes.three().map(Hex);
-        Grouping::of(format!("study - {c} {s} {h} {} 138", Hex(bytes.files().parents)).as_bytes())
+        Grouping::of(format!("study - {} 138", bytes.words()).as_bytes())
     }
 
     #[test]

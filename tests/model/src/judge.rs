@@ -2,14 +2,14 @@
 //!
 //! It takes the demand at its word and shares nothing with the model but the reading of the files:
 //! groups are joined row by row of the parents, every removal is tried, costs are brought to one
-//! denominator and sorted, and schedules are compared one with another. So it is slow, and meant for
-//! small studies.
+//! denominator and sorted, the cheapest point of a curve that reaches ecomin is taken, and schedules are
+//! compared one with another. So it is slow, and meant for small studies.
 
 use std::collections::{BTreeMap, BTreeSet};
 
 use crate::day::Day;
 use crate::rules::{Files, Filing};
-use crate::table::{Kind, Schedule, Supply};
+use crate::table::{Kind, Point, Schedule, Supply};
 
 /// The largest studies that are judged. Eight units keep the common denominator in its type.
 pub const UNITS: usize = 8;
@@ -43,6 +43,8 @@ struct Unit {
     /// What each removal would leave if it took single suppliers away, and not whole groups.
     removals_of_single_suppliers: Vec<u64>,
     schedules: Vec<Offered>,
+    /// The same schedules by their price columns, as if there were no curves.
+    schedules_by_column: Vec<Offered>,
     /// The eligible schedules where the unit is exposed, and where it isn't.
     eligible_exposed: Vec<Offered>,
     eligible_otherwise: Vec<Offered>,
@@ -135,9 +137,11 @@ impl Judge {
         hold(others.all(|other| comes_after(other, &row.schedule)), "another schedule comes before")
     }
 
-    /// The schedules of the unit in a row, for making up answers that show another one.
-    pub fn schedules(&self, row: usize) -> &[Offered] {
-        &self.units[row].schedules
+    /// The schedules of the unit in a row, priced with and without a regard for curves, for making up answers
+    /// that show another one.
+    pub fn schedules(&self, row: usize) -> Vec<Offered> {
+        let Unit { schedules, schedules_by_column, .. } = &self.units[row];
+        [&schedules[..], schedules_by_column].concat()
     }
 
     /// What removals of a row leave, with and without a regard for groups, for making up answers that
@@ -164,7 +168,9 @@ impl Unit {
         let of_unit = |row: &Supply| row.unit == number;
         let supplier = filing.supply.iter().find(|row| of_unit(row)).map_or(0, |row| row.supplier);
         let day_has = day.running.iter().find(|running| running.unit == number);
-        let schedules = offered(number, filing, day_has.is_some());
+        let h = filing.constraint.hour;
+        let own: Vec<Schedule> = filing.schedules.iter().filter(|row| row.unit == number).copied().collect();
+        let schedules = offered(&by_curves(&own, &filing.curves), h, day_has.is_some());
         let on_cost = day_has.is_some_and(|running| running.kind == Kind::C);
         let groups = groups(filing);
         Unit {
@@ -178,6 +184,7 @@ impl Unit {
             eligible_exposed: eligible_schedules(&schedules, on_cost, true),
             eligible_otherwise: eligible_schedules(&schedules, on_cost, false),
             schedules,
+            schedules_by_column: offered(&own, h, day_has.is_some()),
         }
     }
 
@@ -292,11 +299,23 @@ fn removals(supplier: u64, groups: &[Group], relevant: &[Supply]) -> Vec<u64> {
     removed.into_iter().map(leaves).collect()
 }
 
-/// The schedules of a unit with their costs, by number.
-fn offered(unit: u64, filing: &Filing, runs_already: bool) -> Vec<Offered> {
-    let h = filing.constraint.hour;
+/// Rows with "the price so found" for those that have points: prices rise with mw, so the first point that
+/// reaches ecomin is the cheapest that does.
+fn by_curves(rows: &[Schedule], points: &[Point]) -> Vec<Schedule> {
+    let mut found = rows.to_vec();
+    for row in &mut found {
+        let hour = [row.unit, row.schedule, row.hour];
+        let own = points.iter().filter(|point| [point.unit, point.schedule, point.hour] == hour);
+        let cheapest = own.filter(|point| row.ecomin <= point.mw).map(|point| point.price).min();
+        row.price = cheapest.unwrap_or(row.price);
+    }
+    found
+}
+
+/// The schedules of a unit, given by their rows, with their costs, by number.
+fn offered(rows: &[Schedule], h: u64, runs_already: bool) -> Vec<Offered> {
     let mut schedules: BTreeMap<u64, Offered> = BTreeMap::new();
-    for row in filing.schedules.iter().filter(|row| row.unit == unit) {
+    for row in rows {
         let start = if runs_already { 0 } else { 10 * row.startup };
         let new = Offered { number: row.schedule, kind: row.kind, cost: start };
         let schedule = schedules.entry(row.schedule).or_insert(new);
@@ -458,6 +477,29 @@ mod tests {
         assert_eq!(weigh(14, "14,14,F,5000000,1,M,500000"), Err("not its supplier"));
         assert_eq!(weigh(14, "14,4,F,0,1,M,500000"), Err("an amount that no removal leaves"));
         assert_eq!(weigh(11, "11,1,F,0,1,M,1100000"), Err("another schedule comes before"));
+    }
+
+    /// "Answers are judged on the price so found": 2000 for unit 11 on cost, capped to 2200, and 4000 for unit
+    /// 12 on market, as it is.
+    #[test]
+    fn costs_are_by_curves_where_there_are_points() {
+        let weigh = |rows: [&str; 2], curves: &[&str]| {
+            let bytes = Bytes::starred().with_curves(curves);
+            let judge = Judge::of(&bytes.files(), &Day::fresh()).unwrap();
+            judge.weigh([&STARRED[..1], &rows, &STARRED[3..]].concat().join("\r\n").as_bytes())
+        };
+        let (column_11, curve_11) = (STARRED[1], "11,1,F,0,2,C,920000");
+        let (column_12, second_12) = (STARRED[2], "12,2,F,0,2,C,330000");
+        let (of_11, of_12) = (["11,2,5,50,1000", "11,2,5,100,2000"], ["12,1,5,99,1", "12,1,5,101,4000"]);
+        assert_eq!(weigh([curve_11, column_12], &of_11), Ok(()));
+        assert_eq!(weigh([column_11, second_12], &of_12), Ok(()));
+        assert_eq!(weigh([column_11, column_12], &[]), Ok(()));
+        let not_so = Err("not an eligible schedule with its kind and cost");
+        assert_eq!(weigh([column_11, column_12], &of_11), not_so);
+        assert_eq!(weigh(["11,1,F,0,2,C,900000", column_12], &of_11), not_so);
+        assert_eq!(weigh([column_11, column_12], &of_12), not_so);
+        assert_eq!(weigh([curve_11, column_12], &[]), not_so);
+        assert_eq!(weigh([column_11, "12,2,F,0,1,M,400000"], &of_12), Err("another schedule comes before"));
     }
 
     #[test]

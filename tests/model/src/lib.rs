@@ -1,5 +1,5 @@
-//! The offer capping engine, written down from document 01, with requests F-1, F-2 and F-6 of document 02,
-//! and from nothing else.
+//! The offer capping engine, written down from document 01, with requests F-1, F-2, F-3 and F-6 of document
+//! 02, and from nothing else.
 //!
 //! It is a model: every function says one sentence of the paper, nothing is tuned, and whoever
 //! doubts an engine can read here what the paper asks. The modules stand in the paper's order.
@@ -8,8 +8,9 @@
 //! |---|---|
 //! | [`csv`] | "File syntax is RFC 4180" |
 //! | [`table`] | columns, ranges and the refusals 1, 2, 4 and 3 of one file |
+//! | [`curves`] | offer curves: the price at ecomin, the refusals 32, 33 and 34 |
 //! | [`parents`] | affiliated owners: chains, heads, the refusals 35 and 36 |
-//! | [`rules`] | what rows must be to each other: the refusals 5 to 9, 35 and 36 in their order |
+//! | [`rules`] | what rows must be to each other: the refusals 5 to 9 and 32 to 36 in their order |
 //! | [`market`] | capped offer, eligible supply, clearing cost, relevant market |
 //! | [`pivotal`] | the test of one supplier, within a study and on its own |
 //! | [`choice`] | eligible schedules, their cost, the one taken |
@@ -23,7 +24,7 @@
 //! What follows isn't in the paper: [`case`] reads and answers cases written as lines, [`judge`]
 //! weighs any answer by the words of demand 3, [`changes`] makes answers for it to reject,
 //! [`generator`] makes cases up, and [`tally`] counts what they reached, by [`grouping`] where suppliers
-//! are affiliated.
+//! are affiliated and by [`pricing`] where there are curves.
 //!
 //! Programs: `model` answers cases, and `generate SEED COUNT` prints them. `tests/compare` holds an
 //! engine against the model on them.
@@ -31,6 +32,7 @@
 pub mod csv;
 pub mod refusal;
 pub mod table;
+pub mod curves;
 pub mod parents;
 pub mod rules;
 pub mod market;
@@ -48,4 +50,5 @@ pub mod judge;
 pub mod changes;
 pub mod generator;
 pub mod grouping;
+pub mod pricing;
 pub mod tally;

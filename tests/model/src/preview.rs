@@ -58,6 +58,8 @@ mod tests {
         }
         let grouped = preview(&Day::fresh(), &Bytes::starred().with_parents(&["1,2"]), 14);
         assert_eq!(grouped.as_deref(), Ok("14,4,F,0,1,M,500000"));
+        let by_curve = preview(&Day::fresh(), &Bytes::starred().with_curves(&["11,2,5,100,2000"]), 11);
+        assert_eq!(by_curve.as_deref(), Ok("11,1,F,0,2,C,920000"));
     }
 
     #[test]

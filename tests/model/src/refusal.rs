@@ -1,5 +1,5 @@
 //! Refusals: "every refusal gives number, file (1 constraint, 2 supply, 3 schedules, 0 none) and
-//! place".
+//! place". Files that a study gains later are 4 curves and 5 parents.
 
 /// Why a call was refused, and where.
 #[derive(Clone, Copy, Debug, PartialEq, Eq, PartialOrd, Ord, Hash)]

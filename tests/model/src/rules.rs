@@ -1,11 +1,12 @@
-//! What rows must be to each other: refusals 5, 6, 7, 35 and 36 of a file, then 8 and 9 of several.
+//! What rows must be to each other: refusals 5, 6, 7, 32 to 36 of a file, then 8 and 9 of several.
 
 use std::collections::{BTreeMap, BTreeSet};
 
+use crate::curves::{disordered, ends_low, priced, stray_point};
 use crate::parents::{given_twice, head, ring};
 use crate::refusal::{refuse_where, Refusal};
-use crate::table::{read_constraint, read_parents, read_schedules, read_supply};
-use crate::table::{Constraint, Kind, Parent, Schedule, Supply};
+use crate::table::{read_constraint, read_curves, read_parents, read_schedules, read_supply};
+use crate::table::{Constraint, Kind, Parent, Point, Schedule, Supply};
 
 /// "At most 64 units, 32 suppliers".
 pub const UNITS: usize = 64;
@@ -20,6 +21,7 @@ pub struct Files<'a> {
     pub constraint: &'a [u8],
     pub supply: &'a [u8],
     pub schedules: &'a [u8],
+    pub curves: &'a [u8],
     pub parents: &'a [u8],
 }
 
@@ -28,13 +30,15 @@ pub struct Filing {
     pub constraint: Constraint,
     pub supply: Vec<Supply>,
     pub schedules: Vec<Schedule>,
+    pub curves: Vec<Point>,
     pub parents: Vec<Parent>,
 }
 
 impl Filing {
     /// Reads the files: "file by file 1, 2, 4, 3, 5, 6, 7, each over the whole file; then 8, 9". Those of
-    /// the parents stand behind 7: "35 a supplier given two parents, and then with 36 a chain that returns
-    /// to its start", and "1 to 4 apply before them". As far as 6, a file is read alone.
+    /// the curves, 32, "then 33", "then 34", stand "between 7 and 8, with 1 to 4 applying to file 4 before
+    /// them". Those of the parents, 35 "and then" 36, stand "after the refusals of file 4; 1 to 4 apply
+    /// before them". As far as 6, a file is read alone.
     pub fn read(files: &Files) -> Result<Filing, Refusal> {
         let constraint = read_constraint(files.constraint)?;
         let supply = read_supply_alone(files.supply)?;
@@ -42,11 +46,16 @@ impl Filing {
         let schedules = read_schedules_alone(files.schedules)?;
         refuse_where(stray(&schedules, &supply), 7, 3)?;
 
+        let curves = read_curves(files.curves)?;
+        refuse_where(stray_point(&curves, &schedules), 32, 4)?;
+        refuse_where(disordered(&curves), 33, 4)?;
+        refuse_where(ends_low(&curves, &schedules), 34, 4)?;
+
         let parents = read_parents(files.parents)?;
         refuse_where(given_twice(&parents), 35, 5)?;
         refuse_where(ring(&parents), 36, 5)?;
 
-        let filing = Filing { constraint, supply, schedules, parents };
+        let filing = Filing { constraint, supply, schedules, curves, parents };
         refuse_where(filing.without_schedule(), 8, 3)?;
         refuse_where(filing.lacking_hour(), 9, 3)?;
         Ok(filing)
@@ -70,6 +79,11 @@ impl Filing {
     /// The rows of one unit's schedules.
     pub fn schedules_of(&self, unit: u64) -> Vec<Schedule> {
         self.schedules.iter().filter(|row| row.unit == unit).copied().collect()
+    }
+
+    /// The same rows by the prices at which they are judged: those of the curves where there are points.
+    pub fn priced_schedules_of(&self, unit: u64) -> Vec<Schedule> {
+        priced(&self.schedules_of(unit), &self.curves)
     }
 
     /// 8: "unit without a schedule (file 3, lowest unit)".
@@ -175,7 +189,7 @@ mod tests {
         let supply = file("unit,supplier,mw,cost,dfax", supply);
         let schedules = file("unit,schedule,kind,hour,ecomin,price,noload,startup,minrun", schedules);
         let constraint = b"hour,relief,cutoff\r\n22,1,1\r\n";
-        let files = Files { constraint, supply: &supply, schedules: &schedules, parents: b"" };
+        let files = Files { constraint, supply: &supply, schedules: &schedules, curves: b"", parents: b"" };
         Filing::read(&files).map_err(|refusal| (refusal.number, refusal.file, refusal.place))
     }
 

@@ -38,8 +38,8 @@ impl Day {
     }
 
     /// The decision, or the first refusal that has nothing to do with a buffer: "24; then file by file 1,
-    /// 2, 4, 3, 5, 6, 7, each over the whole file; then 8, 9, 20, 21, 22", with 35 and 36 where the files
-    /// are read.
+    /// 2, 4, 3, 5, 6, 7, each over the whole file; then 8, 9, 20, 21, 22", with 32 to 36 where the files are
+    /// read.
     pub fn decide(&self, files: &Files) -> Result<Decision, Refusal> {
         refuse_if(self.ill_formed(), Refusal::nowhere(24))?;
         let filing = Filing::read(files)?;
@@ -77,7 +77,7 @@ impl Day {
     /// "A unit's verdict is that of its supplier by 2 and 5, and the day here is the one the study
     /// was given."
     fn answer_row(&self, unit: u64, supplier: u64, tested: Tested, filing: &Filing, market: &Market) -> Row {
-        let schedules = filing.schedules_of(unit);
+        let schedules = filing.priced_schedules_of(unit);
         let exposed = exposed(unit, tested.verdict, market);
         let chosen = choose(&schedules, filing.constraint.hour, self.kind_of(unit), exposed);
         Row { unit, supplier, tested, chosen: chosen.expect("8 and 21 leave an eligible schedule") }
@@ -99,10 +99,12 @@ fn running(row: &Row) -> Running {
 pub mod tests {
     use super::*;
     use crate::answer::LONGEST;
+    use crate::case::StudyFiles;
 
     const CONSTRAINT: &str = "hour,relief,cutoff";
     const SUPPLY: &str = "unit,supplier,mw,cost,dfax";
     const SCHEDULES: &str = "unit,schedule,kind,hour,ecomin,price,noload,startup,minrun";
+    const CURVES: &str = "unit,schedule,hour,mw,price";
     const PARENTS: &str = "supplier,parent";
 
     const STARRED_SUPPLY: [&str; 4] =
@@ -119,7 +121,7 @@ pub mod tests {
     ];
 
     /// The bytes of a study's files.
-    pub struct Bytes([Vec<u8>; 4]);
+    pub struct Bytes(StudyFiles);
 
     /// The bytes of a file, given by its header and rows.
     fn file(header: &str, rows: &[&str]) -> Vec<u8> {
@@ -127,15 +129,22 @@ pub mod tests {
     }
 
     impl Bytes {
-        /// Files without parents.
+        /// Files without curves and parents.
         pub fn of(constraint: &str, supply: &[&str], schedules: &[&str]) -> Bytes {
             let constraint = file(CONSTRAINT, &[constraint]);
-            Bytes([constraint, file(SUPPLY, supply), file(SCHEDULES, schedules), Vec::new()])
+            let (supply, schedules) = (file(SUPPLY, supply), file(SCHEDULES, schedules));
+            Bytes(StudyFiles([constraint, supply, schedules, Vec::new(), Vec::new()]))
+        }
+
+        /// The same files with curves.
+        pub fn with_curves(mut self, rows: &[&str]) -> Bytes {
+            self.0 .0[StudyFiles::CURVES] = file(CURVES, rows);
+            self
         }
 
         /// The same files with parents.
         pub fn with_parents(mut self, rows: &[&str]) -> Bytes {
-            self.0[3] = file(PARENTS, rows);
+            self.0 .0[StudyFiles::PARENTS] = file(PARENTS, rows);
             self
         }
 
@@ -145,13 +154,17 @@ pub mod tests {
         }
 
         pub fn files(&self) -> Files<'_> {
-            let [constraint, supply, schedules, parents] = &self.0;
-            Files { constraint, supply, schedules, parents }
+            self.0.lend()
+        }
+
+        /// The files as they stand in a case.
+        pub fn words(&self) -> String {
+            self.0.to_string()
         }
 
         /// The files of the check.
         pub fn three(&self) -> [&[u8]; 3] {
-            let [constraint, supply, schedules, _] = self.0.each_ref().map(Vec::as_slice);
+            let Files { constraint, supply, schedules, .. } = self.files();
             [constraint, supply, schedules]
         }
     }
@@ -261,6 +274,72 @@ pub mod tests {
         assert_eq!(refusal(&stray), Refusal::at(7, 3, 1));
         let parents_alone = Bytes::of("5,1,1", &[], &[]).with_parents(&["\n"]);
         assert_eq!(refusal(&parents_alone), Refusal::at(1, 5, 0));
+    }
+
+    /// The starred answer where the schedules have curves.
+    fn by(curves: &[&str]) -> Result<Vec<String>, Refusal> {
+        study(Day::fresh(), &Bytes::starred().with_curves(curves)).1
+    }
+
+    /// Each schedule of unit 11 costs 100 times its offer price and 700000 more.
+    #[test]
+    fn a_curve_stands_in_for_the_price_column() {
+        let row_11 = |curves: &[&str]| by(curves).unwrap()[1].clone();
+        assert_eq!(row_11(&["11,2,5,50,1000", "11,2,5,100,2000"]), "11,1,F,0,2,C,920000");
+        assert_eq!(row_11(&["11,2,5,50,1000", "11,2,5,100,6000"]), "11,1,F,0,1,M,1100000");
+        assert_eq!(row_11(&["11,1,5,99,1000", "11,1,5,101,2000"]), "11,1,F,0,1,M,900000");
+        assert_eq!(row_11(&["11,1,5,100,2200", "11,2,5,100,2000"]), "11,1,F,0,1,M,920000");
+        assert_eq!(row_11(&["11,1,5,100,2201", "11,2,5,100,2000"]), "11,1,F,0,2,C,920000");
+        assert_eq!(by(&[]).unwrap(), study(Day::fresh(), &Bytes::starred()).1.unwrap());
+    }
+
+    /// Hour 6 is in the run of a unit that isn't running, and hour 4 in nobody's.
+    #[test]
+    fn a_curve_prices_its_own_hour_alone() {
+        let rows = ["1,1,M,4,10,7,0,0,2", "1,1,M,5,10,7,0,0,2", "1,1,M,6,10,7,0,0,2"];
+        let row = |day: Day, curve: &str| {
+            let bytes = Bytes::of("5,1,1", &["1,1,1,1,1"], &rows).with_curves(&[curve]);
+            study(day, &bytes).1.unwrap()[1].clone()
+        };
+        let running = Day { hour: None, running: vec![runs(1, Kind::M, 1)] };
+        assert_eq!(row(Day::fresh(), "1,1,4,10,100"), "1,1,U,0,1,M,140");
+        assert_eq!(row(Day::fresh(), "1,1,6,10,100"), "1,1,U,0,1,M,1070");
+        assert_eq!(row(running.clone(), "1,1,6,10,100"), "1,1,U,0,1,M,70");
+        assert_eq!(row(running, "1,1,5,10,100"), "1,1,U,0,1,M,1000");
+    }
+
+    #[test]
+    fn curves_refuse_in_their_place() {
+        let refusal = |curves: &[&str]| by(curves).unwrap_err();
+        let (stray, again, low) = ("11,2,6,100,2000", "11,2,5,100,2000", "12,1,5,99,1");
+        assert_eq!(refusal(&[again, again, low, stray]), Refusal::at(32, 4, 4));
+        assert_eq!(refusal(&[low, again, again]), Refusal::at(33, 4, 3));
+        assert_eq!(refusal(&[again, low]), Refusal::at(34, 4, 2));
+        assert_eq!(refusal(&[stray, again, "0,1,5,1,1"]), Refusal::at(3, 4, 3));
+        let refused = |bytes: Bytes| study(Day::fresh(), &bytes).1.unwrap_err();
+        assert_eq!(
+            refused(Bytes::starred().with_curves(&[low]).with_parents(&["\n"])),
+            Refusal::at(34, 4, 1)
+        );
+        let row = "1,1,M,5,1,0,0,0,1";
+        let without_schedule =
+            |curve| Bytes::of("5,1,1", &["1,1,1,1,1", "2,1,1,1,1"], &[row]).with_curves(&[curve]);
+        assert_eq!(refused(without_schedule("1,1,5,0,0")), Refusal::at(34, 4, 1));
+        assert_eq!(refused(without_schedule("1,1,5,1,0")), Refusal::at(8, 3, 2));
+        assert_eq!(refused(Bytes::of("5,1,1", &[], &[row]).with_curves(&["\n"])), Refusal::at(7, 3, 1));
+        assert_eq!(refused(Bytes::of("5,1,1", &[], &[]).with_curves(&["\n"])), Refusal::at(1, 4, 0));
+    }
+
+    /// The run is hours 5 and 6, and the schedule has a row for the first alone.
+    #[test]
+    fn a_curve_fills_in_for_no_row() {
+        let rows = ["1,1,M,5,1,0,0,0,2"];
+        let refused = |curves: &[&str]| {
+            let bytes = Bytes::of("5,1,1", &["1,1,1,1,1"], &rows).with_curves(curves);
+            study(Day::fresh(), &bytes).1.unwrap_err()
+        };
+        assert_eq!(refused(&["1,1,5,1,1"]), Refusal::at(9, 3, 1));
+        assert_eq!(refused(&["1,1,5,1,1", "1,1,6,1,1"]), Refusal::at(32, 4, 2));
     }
 
     #[test]

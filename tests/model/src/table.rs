@@ -95,6 +95,20 @@ pub const SCHEDULES: Table = Table {
     ],
 };
 
+/// "`unit,schedule,hour,mw,price`", at most "4096 rows; its mw ranges as ecomin, its other columns as in the
+/// schedules" (document 02, F-3).
+pub const CURVES: Table = Table {
+    file: 4,
+    rows: 0..=4096,
+    columns: &[
+        column("unit", 1, 9_999),
+        column("schedule", 1, 99),
+        column("hour", 0, 23),
+        column("mw", 0, 100_000),
+        column("price", 0, 200_000),
+    ],
+};
+
 /// "`supplier,parent`, at most 64 rows", of which "both columns range as supplier does" (document 02,
 /// F-6).
 pub const PARENTS: Table =
@@ -158,6 +172,23 @@ impl Schedule {
     }
 }
 
+/// A row of the curves file: a point of the curve of a "schedule hour".
+#[derive(Clone, Copy, Debug, PartialEq, Eq)]
+pub struct Point {
+    pub unit: u64,
+    pub schedule: u64,
+    pub hour: u64,
+    pub mw: u64,
+    pub price: u64,
+}
+
+impl Point {
+    /// The row as it is written.
+    pub fn fields(&self) -> Record {
+        [self.unit, self.schedule, self.hour, self.mw, self.price].map(text).to_vec()
+    }
+}
+
 /// A row of the parents file: it "names a parent for a supplier".
 #[derive(Clone, Copy, Debug, PartialEq, Eq)]
 pub struct Parent {
@@ -213,14 +244,22 @@ pub fn read_schedules(file: &[u8]) -> Result<Vec<Schedule>, Refusal> {
     Ok(SCHEDULES.read(file)?.iter().map(schedule).collect())
 }
 
-/// The rows of the parents file, each for itself: "a file that a study gains later may be empty, which
-/// counts as its header alone".
+/// The rows of the curves file, each for itself.
+pub fn read_curves(file: &[u8]) -> Result<Vec<Point>, Refusal> {
+    let point = |row: &Vec<Value>| Point {
+        unit: row[0].count(),
+        schedule: row[1].count(),
+        hour: row[2].count(),
+        mw: row[3].count(),
+        price: row[4].count(),
+    };
+    Ok(CURVES.read_gained(file)?.iter().map(point).collect())
+}
+
+/// The rows of the parents file, each for itself.
 pub fn read_parents(file: &[u8]) -> Result<Vec<Parent>, Refusal> {
-    if file.is_empty() {
-        return Ok(Vec::new());
-    }
     let parent = |row: &Vec<Value>| Parent { supplier: row[0].count(), parent: row[1].count() };
-    Ok(PARENTS.read(file)?.iter().map(parent).collect())
+    Ok(PARENTS.read_gained(file)?.iter().map(parent).collect())
 }
 
 /// What a field says once it is read.
@@ -267,6 +306,14 @@ impl Table {
             values.push(self.values(row).ok_or(Refusal::at(3, self.file, place))?);
         }
         Ok(values)
+    }
+
+    /// The rows of "a file that a study gains later", which "may be empty, which counts as its header alone".
+    fn read_gained(&self, file: &[u8]) -> Result<Vec<Vec<Value>>, Refusal> {
+        if file.is_empty() {
+            return Ok(Vec::new());
+        }
+        self.read(file)
     }
 
     /// "Header differs, or a record has another field count (first such record, header 0)".
@@ -409,6 +456,39 @@ mod tests {
         assert_eq!(parents(&file(65)), Err((4, 5, 0)));
         for row in ["0,1", "1,0", "1000,1", "1,1000", "1,-2", "1,02", "1,"] {
             assert_eq!(parents(&format!("{}\r\n{row}", file(1))), Err((3, 5, 2)), "{row}");
+        }
+    }
+
+    fn curves(file: &str) -> Result<usize, (u64, u64, u64)> {
+        match read_curves(file.as_bytes()) {
+            Ok(rows) => Ok(rows.len()),
+            Err(Refusal { number, file, place }) => Err((number, file, place)),
+        }
+    }
+
+    #[test]
+    fn curves_may_be_no_bytes_but_not_a_blank_record() {
+        assert_eq!(curves(""), Ok(0));
+        assert_eq!(curves("unit,schedule,hour,mw,price"), Ok(0));
+        assert_eq!(curves("unit,schedule,hour,mw,price\r\n\"1\",99,23,0,\"0\"\r\n"), Ok(1));
+        assert_eq!(curves("\r\n"), Err((2, 4, 0)));
+        assert_eq!(curves("unit,schedule,hour,price,mw\r\n"), Err((2, 4, 0)));
+        assert_eq!(curves("unit,schedule,hour,mw,price\r\n1,1,1,1"), Err((2, 4, 1)));
+    }
+
+    #[test]
+    fn curves_are_at_most_4096_points_and_range_as_in_the_schedules() {
+        let file = |count: usize| format!("unit,schedule,hour,mw,price{}", "\r\n1,1,1,1,1".repeat(count));
+        assert_eq!(curves(&file(4096)), Ok(4096));
+        assert_eq!(curves(&file(4097)), Err((4, 4, 0)));
+        for row in ["9999,99,23,100000,200000", "1,1,0,0,0"] {
+            assert_eq!(curves(&format!("{}\r\n{row}", file(1))), Ok(2), "{row}");
+        }
+        for row in ["0,1,0,0,0", "10000,1,0,0,0", "1,0,0,0,0", "1,100,0,0,0", "1,1,24,0,0"] {
+            assert_eq!(curves(&format!("{}\r\n{row}", file(1))), Err((3, 4, 2)), "{row}");
+        }
+        for row in ["1,1,0,100001,0", "1,1,0,0,200001", "1,1,0,-1,0", "1,1,0,01,0", "1,1,0,,0"] {
+            assert_eq!(curves(&format!("{}\r\n{row}", file(1))), Err((3, 4, 2)), "{row}");
         }
     }
 

@@ -1,5 +1,5 @@
-//! How often each refusal and each verdict was reached by the cases of a run, what parents did, what was
-//! handed back tidy, and what was previewed.
+//! How often each refusal and each verdict was reached by the cases of a run, what parents and curves did,
+//! what was handed back tidy, and what was previewed.
 
 use std::collections::BTreeMap;
 use std::fmt::{self, Display, Formatter};
@@ -8,6 +8,7 @@ use std::ops::RangeInclusive;
 use crate::case::{read_hex, Case, StudyFiles, UNREADABLE};
 use crate::day::Day;
 use crate::grouping::Grouping;
+use crate::pricing::{self, Pricing};
 use crate::table::read_supply;
 
 /// Something that a case can reach.
@@ -15,7 +16,7 @@ use crate::table::read_supply;
 pub enum Reached {
     /// A refusal of a study, a release or a lone test, by number and file.
     Refusal(u64, u64),
-    /// A refusal of the parents between each other, by number and the band of its place.
+    /// A refusal of curves or parents beyond 1 to 4, by number and the band of its place.
     Place(u64, u64),
     /// What a check answered.
     Check(u64),
@@ -36,6 +37,8 @@ pub enum Reached {
     AnswerMoved,
     /// .. and one in which a verdict is another.
     VerdictMoved,
+    /// What curves did in a study or a preview.
+    Curves(Pricing),
     /// A refusal of a file to be handed back tidy, by number and file.
     NotTidied(u64, u64),
     /// A file that was handed back tidy, by its number, ..
@@ -58,8 +61,10 @@ pub enum Reached {
     Previewed(char),
     /// .. one that is another on a fresh day, ..
     PreviewedByDay,
-    /// .. and one that is another without parents.
+    /// .. one that is another without parents, ..
     PreviewedByParents,
+    /// .. and one that is another without curves.
+    PreviewedByCurves,
 }
 
 /// The verdicts of a study's rows.
@@ -69,17 +74,17 @@ const VERDICTS: [char; 3] = ['U', 'P', 'F'];
 const UNITS: RangeInclusive<u64> = 1..=9_999;
 
 /// The files, as refusals name them; 0 for none.
-const FILES: [u64; 5] = [0, 1, 2, 3, 5];
+const FILES: [u64; 6] = [0, 1, 2, 3, 4, 5];
 
 /// A refusal's number, with the files that it can name.
 type Named = (u64, &'static [u64]);
 
 /// The refusals of a study, a release or a lone test.
-const REFUSALS: [Named; 18] = [
-    (1, &[1, 2, 3, 5]),
-    (2, &[1, 2, 3, 5]),
-    (3, &[1, 2, 3, 5]),
-    (4, &[1, 2, 3, 5]),
+const REFUSALS: [Named; 21] = [
+    (1, &[1, 2, 3, 4, 5]),
+    (2, &[1, 2, 3, 4, 5]),
+    (3, &[1, 2, 3, 4, 5]),
+    (4, &[1, 2, 3, 4, 5]),
     (5, &[2]),
     (6, &[2, 3]),
     (7, &[3]),
@@ -92,6 +97,9 @@ const REFUSALS: [Named; 18] = [
     (22, &[0]),
     (23, &[0]),
     (24, &[0]),
+    (32, &[4]),
+    (33, &[4]),
+    (34, &[4]),
     (35, &[5]),
     (36, &[5]),
 ];
@@ -118,11 +126,12 @@ const NOT_OF_A_PREVIEW: [u64; 3] = [10, 11, 23];
 const ABSENT: u64 = 31;
 
 /// What else can be said of a preview, in words.
-const LOOKED_AT: [(&str, Reached); 4] = [
+const LOOKED_AT: [(&str, Reached); 5] = [
     ("31 of a running unit", Reached::AbsentRunning),
     ("31 of a number that no unit has", Reached::AbsentBeyond),
     ("another row than on a fresh day", Reached::PreviewedByDay),
     ("another row than without parents", Reached::PreviewedByParents),
+    ("another row than without curves", Reached::PreviewedByCurves),
 ];
 
 /// What else parents can do in an accepted study, in words.
@@ -133,11 +142,20 @@ const MOVED: [(&str, Reached); 4] = [
     ("another verdict", Reached::VerdictMoved),
 ];
 
-/// The least numbers of the bands in which places of the parents and steps of chains are counted.
-const BANDS: [u64; 6] = [0, 1, 2, 3, 10, 64];
+/// The least numbers of the bands in which places and steps of chains are counted.
+const BANDS: [u64; 7] = [0, 1, 2, 3, 10, 64, 1_000];
 
-/// Where 35 and 36 can be: a second parent has a record before it.
-const PLACES: [(u64, &[u64]); 2] = [(35, &[2, 3, 10, 64]), (36, &[1, 2, 3, 10, 64])];
+/// The bands of a chain, which has 64 steps at most.
+const CHAINS: [u64; 6] = [0, 1, 2, 3, 10, 64];
+
+/// Where these can be: a point that doesn't rise, and a second parent, have a record before them.
+const PLACES: [(u64, &[u64]); 5] = [
+    (32, &[1, 2, 3, 10, 64, 1_000]),
+    (33, &[2, 3, 10, 64, 1_000]),
+    (34, &[1, 2, 3, 10, 64, 1_000]),
+    (35, &[2, 3, 10, 64]),
+    (36, &[1, 2, 3, 10, 64]),
+];
 
 /// The least number of the band of a number.
 fn band(number: u64) -> u64 {
@@ -148,6 +166,8 @@ fn band(number: u64) -> u64 {
 #[derive(Default)]
 pub struct Tally {
     counts: BTreeMap<Reached, u64>,
+    /// The smallest and the largest place of the refusals whose places are counted.
+    ends: BTreeMap<u64, (u64, u64)>,
 }
 
 impl Tally {
@@ -155,6 +175,10 @@ impl Tally {
     pub fn count(&mut self, case: &[u8], answer: &str) {
         for reached in reached(case, answer) {
             *self.counts.entry(reached).or_default() += 1;
+        }
+        if let Some((number, place)) = placed(answer) {
+            let (smallest, largest) = self.ends.entry(number).or_insert((place, place));
+            (*smallest, *largest) = (place.min(*smallest), place.max(*largest));
         }
     }
 
@@ -167,20 +191,56 @@ impl Tally {
         self.counts.get(&reached).copied().unwrap_or(0)
     }
 
-    /// What parents did.
-    fn show_parents(&self, out: &mut Formatter) -> fmt::Result {
+    /// Where the refusals of curves and parents were.
+    fn show_places(&self, out: &mut Formatter) -> fmt::Result {
         for (number, places) in PLACES {
             write!(out, "{number} at a place from")?;
             for &place in places {
                 write!(out, "  {place}: {}", self.of(Reached::Place(number, place)))?;
             }
+            match self.ends.get(&number) {
+                Some((smallest, largest)) => writeln!(out, ", smallest {smallest}, largest {largest}")?,
+                None => writeln!(out)?,
+            }
+        }
+        Ok(())
+    }
+
+    /// What curves did.
+    fn show_curves(&self, out: &mut Formatter) -> fmt::Result {
+        let of = |said| self.of(Reached::Curves(said));
+        let said = pricing::SAID.map(|(what, said)| format!("{what}: {}", of(said)));
+        writeln!(out, "{}", said.join(", "))?;
+        for (first, other) in pricing::PAIRS {
+            let (earlier, later) = (Pricing::BesideEarlier(first, other), Pricing::BesideLater(first, other));
+            writeln!(
+                out,
+                "{first} with {other} at an earlier record: {}, at a later: {}",
+                of(earlier),
+                of(later)
+            )?;
+        }
+        for number in pricing::OF_CURVES {
+            write!(out, "{number} alone: {}; behind", of(Pricing::Alone(number)))?;
+            for before in pricing::BEFORE {
+                write!(out, "  {before}: {}", of(Pricing::Before(before, number)))?;
+            }
+            write!(out, "; before")?;
+            for behind in pricing::BEHIND {
+                write!(out, "  {behind}: {}", of(Pricing::Behind(number, behind)))?;
+            }
             writeln!(out)?;
         }
+        Ok(())
+    }
+
+    /// What parents did.
+    fn show_parents(&self, out: &mut Formatter) -> fmt::Result {
         write!(out, "longest chain, in steps from")?;
-        for steps in BANDS {
+        for steps in CHAINS {
             write!(out, "  {steps}: {}", self.of(Reached::Chain(steps)))?;
         }
-        let accepted: u64 = BANDS.iter().map(|&steps| self.of(Reached::Chain(steps))).sum();
+        let accepted: u64 = CHAINS.iter().map(|&steps| self.of(Reached::Chain(steps))).sum();
         write!(out, "\nstudies accepted with parents: {accepted}")?;
         for (what, reached) in MOVED {
             write!(out, ", {what}: {}", self.of(reached))?;
@@ -201,7 +261,7 @@ impl Tally {
 
     /// What was previewed.
     fn show_previews(&self, out: &mut Formatter) -> fmt::Result {
-        writeln!(out, "preview    file 0    file 1    file 2    file 3    file 5")?;
+        writeln!(out, "preview    file 0    file 1    file 2    file 3    file 4    file 5")?;
         self.show_refusals(&preview_refusals(), &FILES, Reached::NotPreviewed, out)?;
         write!(out, "of a unit not in supply, before 31")?;
         for (number, _) in refused_before() {
@@ -272,22 +332,35 @@ fn can_occur() -> Vec<Reached> {
     for (number, places) in PLACES {
         all.extend(places.iter().map(|&place| Reached::Place(number, place)));
     }
-    all.extend(BANDS.map(Reached::Chain));
+    all.extend(Pricing::all().into_iter().map(Reached::Curves));
+    all.extend(CHAINS.map(Reached::Chain));
     all.extend(MOVED.map(|(_, reached)| reached));
     all
 }
 
-/// What one case reached, by its first word and its answer.
+/// Number and place of an answer that is a refusal whose places are counted.
+fn placed(answer: &str) -> Option<(u64, u64)> {
+    let words: Vec<&str> = answer.split(' ').collect();
+    let ["no", number, _, place] = words[..] else { return None };
+    let number = count(number);
+    PLACES.iter().any(|(counted, _)| *counted == number).then(|| (number, count(place)))
+}
+
+/// What one case reached: by itself, by the place of its refusal and by its curves.
 fn reached(case: &[u8], answer: &str) -> Vec<Reached> {
+    let mut all = reached_by_answer(case, answer);
+    all.extend(placed(answer).map(|(number, place)| Reached::Place(number, band(place))));
+    all.extend(Pricing::of(case, answer).into_iter().map(Reached::Curves));
+    all
+}
+
+/// What one case reached, by its first word and its answer.
+fn reached_by_answer(case: &[u8], answer: &str) -> Vec<Reached> {
     let asked = case.split(|&byte| byte == b' ').next().unwrap_or_default();
     let words: Vec<&str> = answer.split(' ').collect();
     match (asked, &words[..]) {
         _ if answer == UNREADABLE => vec![Reached::Unreadable],
         (b"preview", _) => reached_by_preview(case, answer),
-        (_, ["no", number @ ("35" | "36"), file, place]) => {
-            let number = count(number);
-            vec![Reached::Refusal(number, count(file)), Reached::Place(number, band(count(place)))]
-        }
         (b"tidy", ["no", number, file, _]) => vec![Reached::NotTidied(count(number), count(file))],
         (b"tidy", ["ok", hex]) => reached_by_tidy(case, hex),
         (_, ["no", number, file, _]) => vec![Reached::Refusal(count(number), count(file))],
@@ -347,9 +420,11 @@ fn reached_by_preview(case: &[u8], answer: &str) -> Vec<Reached> {
         }
         ["ok", _, _, verdict, ..] => {
             let other = |day, files| Case::Preview { day, files, unit }.answer();
+            let without = |place| other(day.clone(), files.clone().without(place));
             let found = vec![
                 (other(Day::fresh(), files.clone()) != answer, Reached::PreviewedByDay),
-                (other(day, files.without(StudyFiles::PARENTS)) != answer, Reached::PreviewedByParents),
+                (without(StudyFiles::PARENTS) != answer, Reached::PreviewedByParents),
+                (without(StudyFiles::CURVES) != answer, Reached::PreviewedByCurves),
             ];
             (Reached::Previewed(verdict.chars().next().unwrap_or_default()), found)
         }
@@ -377,7 +452,7 @@ fn verdicts(hex: &str) -> Vec<char> {
 
 impl Display for Tally {
     fn fmt(&self, out: &mut Formatter) -> fmt::Result {
-        writeln!(out, "refusal    file 0    file 1    file 2    file 3    file 5")?;
+        writeln!(out, "refusal    file 0    file 1    file 2    file 3    file 4    file 5")?;
         self.show_refusals(&REFUSALS, &FILES, Reached::Refusal, out)?;
         write!(out, "check  ")?;
         for number in 0..=9 {
@@ -390,6 +465,8 @@ impl Display for Tally {
         let tests = ['P', 'F'].map(|verdict| self.of(Reached::Test(verdict)));
         writeln!(out, "tests    P: {}, F: {}", tests[0], tests[1])?;
         writeln!(out, "releases accepted: {}", self.of(Reached::Release))?;
+        self.show_places(out)?;
+        self.show_curves(out)?;
         self.show_parents(out)?;
         self.show_tidy(out)?;
         self.show_previews(out)?;
@@ -412,15 +489,15 @@ mod tests {
         assert_eq!(reached(b"", UNREADABLE), [Reached::Unreadable]);
         let ring = reached(b"study", "no 36 5 12");
         assert_eq!(ring, [Reached::Refusal(36, 5), Reached::Place(36, 10)]);
-        assert_eq!([0, 1, 2, 9, 63, 64].map(band), [0, 1, 2, 3, 10, 64]);
+        assert_eq!(reached(b"study", "no 33 4 2"), [Reached::Refusal(33, 4), Reached::Place(33, 2)]);
+        assert_eq!([0, 1, 2, 9, 63, 999, 4_096].map(band), [0, 1, 2, 3, 10, 64, 1_000]);
     }
 
     #[test]
     fn parents_count_by_what_they_move() {
         let reached = |parents: &[&str]| {
             let bytes = Bytes::starred().with_parents(parents);
-            let [c, s, h] = bytes.three().map(Hex);
-            let line = format!("study - {c} {s} {h} {} 4096", Hex(bytes.files().parents));
+            let line = format!("study - {} 4096", bytes.words());
             reached_by_parents(line.as_bytes(), &case::answer(line.as_bytes()))
         };
         assert_eq!(reached(&[]), []);
@@ -449,9 +526,8 @@ mod tests {
     #[test]
     fn previews_count_by_what_they_show() {
         let bytes = Bytes::starred().with_parents(&["1,2"]);
-        let [c, s, h] = bytes.three().map(Hex);
         let reached = |day: &str, unit: u64| {
-            let line = format!("preview {day} {c} {s} {h} {} {unit}", Hex(bytes.files().parents));
+            let line = format!("preview {day} {} {unit}", bytes.words());
             reached(line.as_bytes(), &case::answer(line.as_bytes()))
         };
         assert_eq!(reached("-", 11), [Reached::Previewed('F')]);
@@ -466,9 +542,18 @@ mod tests {
     }
 
     #[test]
+    fn the_smallest_and_the_largest_place_are_kept() {
+        let mut tally = Tally::default();
+        for place in [7, 4_096, 2, 30] {
+            tally.count(b"study", &format!("no 33 4 {place}"));
+        }
+        assert!(tally.to_string().contains(", smallest 2, largest 4096\n"));
+    }
+
+    #[test]
     fn some_thousand_cases_reach_everything() {
         let mut tally = Tally::default();
-        for index in 0..4_000 {
+        for index in 0..6_000 {
             let line = generator::make(generator::GATE_SEED, index).bytes;
             tally.count(&line, &case::answer(&line));
         }

@@ -18,6 +18,7 @@ pub type ThreeFiles = [Vec<u8>; 3];
 #[derive(Debug, PartialEq, Eq)]
 pub struct StudyFiles {
     three: ThreeFiles,
+    curves: Vec<u8>,
     parents: Vec<u8>,
 }
 
@@ -25,7 +26,7 @@ impl StudyFiles {
     /// The files as a study and a preview take them.
     pub fn lent(&self) -> Files<'_> {
         let [constraint, supply, schedules] = &self.three;
-        Files::new(constraint, supply, schedules).with_parents(&self.parents)
+        Files::new(constraint, supply, schedules).with_curves(&self.curves).with_parents(&self.parents)
     }
 }
 
@@ -44,14 +45,14 @@ impl Asked {
     pub fn read(line: &[u8]) -> Option<Asked> {
         let words: Vec<&[u8]> = line.split(|&byte| byte == b' ').collect();
         match words[..] {
-            [b"study", day, c, s, h, p, lent] => Some(Asked::Study {
+            [b"study", day, c, s, h, k, p, lent] => Some(Asked::Study {
                 day: read_day(day)?,
-                files: read_study_files(c, s, h, p)?,
+                files: read_study_files([c, s, h], k, p)?,
                 lent: read_lent(lent, LONGEST_BUFFER)?,
             }),
-            [b"preview", day, c, s, h, p, unit] => Some(Asked::Preview {
+            [b"preview", day, c, s, h, k, p, unit] => Some(Asked::Preview {
                 day: read_day(day)?,
-                files: read_study_files(c, s, h, p)?,
+                files: read_study_files([c, s, h], k, p)?,
                 unit: read_number(unit)?,
             }),
             [b"release", day, unit] => Some(Asked::Release { day: read_day(day)?, unit: read_number(unit)? }),
@@ -65,7 +66,7 @@ impl Asked {
                 place: read_size(place)?,
                 amounts: read_amounts(amounts)?,
             }),
-            [b"check", c, s, h] => Some(Asked::Check { files: read_files(c, s, h)? }),
+            [b"check", c, s, h] => Some(Asked::Check { files: read_files([c, s, h])? }),
             _ => None,
         }
     }
@@ -75,17 +76,13 @@ fn read_day(word: &[u8]) -> Option<Day> {
     std::str::from_utf8(word).ok()?.parse().ok()
 }
 
-fn read_files(constraint: &[u8], supply: &[u8], schedules: &[u8]) -> Option<ThreeFiles> {
+fn read_files([constraint, supply, schedules]: [&[u8]; 3]) -> Option<ThreeFiles> {
     Some([hex::read(constraint)?, hex::read(supply)?, hex::read(schedules)?])
 }
 
-fn read_study_files(
-    constraint: &[u8],
-    supply: &[u8],
-    schedules: &[u8],
-    parents: &[u8],
-) -> Option<StudyFiles> {
-    Some(StudyFiles { three: read_files(constraint, supply, schedules)?, parents: hex::read(parents)? })
+fn read_study_files(three: [&[u8]; 3], curves: &[u8], parents: &[u8]) -> Option<StudyFiles> {
+    let (curves, parents) = (hex::read(curves)?, hex::read(parents)?);
+    Some(StudyFiles { three: read_files(three)?, curves, parents })
 }
 
 fn read_file_number(word: &[u8]) -> Option<File> {
@@ -143,14 +140,14 @@ mod tests {
     #[test]
     fn each_case() {
         let files = || [vec![0x0a, 0xff], vec![], vec![0]];
-        let with_parents = || StudyFiles { three: files(), parents: vec![1, 2] };
+        let all = || StudyFiles { three: files(), curves: vec![3], parents: vec![1, 2] };
         assert_eq!(
-            read("study 5;1:M:2 0aff . 00 0102 12"),
-            Some(Asked::Study { day: day("5;1:M:2"), files: with_parents(), lent: 12 })
+            read("study 5;1:M:2 0aff . 00 03 0102 12"),
+            Some(Asked::Study { day: day("5;1:M:2"), files: all(), lent: 12 })
         );
         assert_eq!(
-            read("preview 24;1:M:2 0aff . 00 0102 7"),
-            Some(Asked::Preview { day: day("24;1:M:2"), files: with_parents(), unit: 7 })
+            read("preview 24;1:M:2 0aff . 00 03 0102 7"),
+            Some(Asked::Preview { day: day("24;1:M:2"), files: all(), unit: 7 })
         );
         assert_eq!(read("release - 7"), Some(Asked::Release { day: Day::fresh(), unit: 7 }));
         for (number, file) in [(1, File::Constraint), (2, File::Supply), (3, File::Schedules)] {
@@ -165,7 +162,7 @@ mod tests {
     #[test]
     fn numbers_up_to_64_bits() {
         let release = |word: &str| read(&format!("release - {word}"));
-        let preview = |word: &str| read(&format!("preview - . . . . {word}"));
+        let preview = |word: &str| read(&format!("preview - . . . . . {word}"));
         let largest = Asked::Release { day: Day::fresh(), unit: u64::MAX };
         assert_eq!(release("18446744073709551615"), Some(largest));
         let is_largest = |asked| matches!(asked, Asked::Preview { unit: u64::MAX, .. });
@@ -180,9 +177,9 @@ mod tests {
 
     #[test]
     fn what_is_lent() {
-        assert!(read("study - . . . . 0").is_some());
-        assert!(read("study - . . . . 4096").is_some());
-        assert_eq!(read("study - . . . . 4097"), None);
+        assert!(read("study - . . . . . 0").is_some());
+        assert!(read("study - . . . . . 4096").is_some());
+        assert_eq!(read("study - . . . . . 4097"), None);
         assert!(read("tidy 1 . 0").is_some());
         assert!(read("tidy 1 . 65536").is_some());
         assert_eq!(read("tidy 1 . 65537"), None);
@@ -197,17 +194,18 @@ mod tests {
 
     #[test]
     fn files_of_any_length() {
-        let file = "61".repeat(1 << 20);
-        let files = || [vec![0x61; 1 << 20], vec![0x61; 1 << 20], vec![0x61; 1 << 20]];
-        assert_eq!(read(&format!("check {file} {file} {file}")), Some(Asked::Check { files: files() }));
-        let with_parents = || StudyFiles { three: files(), parents: vec![0x61; 1 << 20] };
+        let file = || vec![0x61; 1 << 20];
+        let three = || [file(), file(), file()];
+        let words = |count| vec!["61".repeat(1 << 20); count].join(" ");
+        assert_eq!(read(&format!("check {}", words(3))), Some(Asked::Check { files: three() }));
+        let all = || StudyFiles { three: three(), curves: file(), parents: file() };
         assert_eq!(
-            read(&format!("study - {file} {file} {file} {file} 7")),
-            Some(Asked::Study { day: Day::fresh(), files: with_parents(), lent: 7 })
+            read(&format!("study - {} 7", words(5))),
+            Some(Asked::Study { day: Day::fresh(), files: all(), lent: 7 })
         );
         assert_eq!(
-            read(&format!("preview - {file} {file} {file} {file} 7")),
-            Some(Asked::Preview { day: Day::fresh(), files: with_parents(), unit: 7 })
+            read(&format!("preview - {} 7", words(5))),
+            Some(Asked::Preview { day: Day::fresh(), files: all(), unit: 7 })
         );
     }
 
@@ -217,32 +215,34 @@ mod tests {
             "",
             " ",
             "study",
-            " study - . . . . 1",
-            "study  - . . . . 1",
-            "study - . . . 1",
-            "study - . . . .",
-            "study - . . . . ",
-            "study - . . . . 1 ",
-            "study - . . . . 1 1",
-            "study - . . . . . 1",
-            "study - 0 . . . 1",
-            "study - 0g . . . 1",
-            "study - . . . 0A 1",
-            "study - .. . . . 1",
-            "study -  . . . 1",
+            " study - . . . . . 1",
+            "study  - . . . . . 1",
+            "study - . . . . 1",
+            "study - . . . . .",
+            "study - . . . . . ",
+            "study - . . . . . 1 ",
+            "study - . . . . . 1 1",
+            "study - . . . . . . 1",
+            "study - 0 . . . . 1",
+            "study - 0g . . . . 1",
+            "study - . . . 0A . 1",
+            "study - . . . . 0A 1",
+            "study - .. . . . . 1",
+            "study -  . . . . 1",
             "preview",
             "preview 7",
-            "preview - . . . 7",
-            "preview - . . . .",
-            "preview - . . . . ",
-            "preview - . . . . 7 ",
-            "preview - . . . . 7 7",
-            "preview - . . . . . 7",
-            "preview  . . . . 7",
-            "preview 5 . . . . 7",
-            "preview - 0 . . . 7",
-            "preview - . . . 0A 7",
-            "Preview - . . . . 7",
+            "preview - . . . . 7",
+            "preview - . . . . .",
+            "preview - . . . . . ",
+            "preview - . . . . . 7 ",
+            "preview - . . . . . 7 7",
+            "preview - . . . . . . 7",
+            "preview  . . . . . 7",
+            "preview 5 . . . . . 7",
+            "preview - 0 . . . . 7",
+            "preview - . . . 0A . 7",
+            "preview - . . . . 0A 7",
+            "Preview - . . . . . 7",
             "release",
             "release -",
             "release - ",

@@ -2,18 +2,19 @@
 //! answers, one a line.
 //!
 //! ```text
-//! study DAY C S H P BUFLEN   ok ANSWERHEX DAY   or   no NUMBER FILE PLACE
-//! preview DAY C S H P UNIT   ok U,S,V,LEFT,SCHEDULE,KIND,COST   or   no NUMBER FILE PLACE
-//! release DAY UNIT           ok DAY             or   no NUMBER FILE PLACE
-//! tidy N FILE BUFLEN         ok TIDYHEX         or   no NUMBER FILE PLACE
-//! test NEED PLACE a,b,c      ok LEFT P   or   ok LEFT F   or   no 11 0 0
-//! check C S H                NUMBER
+//! study DAY C S H K P BUFLEN   ok ANSWERHEX DAY   or   no NUMBER FILE PLACE
+//! preview DAY C S H K P UNIT   ok U,S,V,LEFT,SCHEDULE,KIND,COST   or   no NUMBER FILE PLACE
+//! release DAY UNIT             ok DAY             or   no NUMBER FILE PLACE
+//! tidy N FILE BUFLEN           ok TIDYHEX         or   no NUMBER FILE PLACE
+//! test NEED PLACE a,b,c        ok LEFT P   or   ok LEFT F   or   no 11 0 0
+//! check C S H                  NUMBER
 //! ```
 //!
-//! DAY is a day in the words of `hosts/rust`. C, S, H and P are the files, P the parents, in lower-case
-//! hex, `.` for an empty file, and so is FILE, which N says is 1 the constraint, 2 supply or 3 schedules;
-//! `.` stands for no amounts too. UNIT is any 64-bit number. Whatever isn't in this form is answered by
-//! `unreadable case`, and a case in which the engine changed what it had to leave alone by `spoilt`.
+//! DAY is a day in the words of `hosts/rust`. C, S, H, K and P are the files, K the curves and P the
+//! parents, in lower-case hex, `.` for an empty file, and so is FILE, which N says is 1 the constraint,
+//! 2 supply or 3 schedules; `.` stands for no amounts too. UNIT is any 64-bit number. Whatever isn't in
+//! this form is answered by `unreadable case`, and a case in which the engine changed what it had to
+//! leave alone by `spoilt`.
 //!
 //! The model reads the same lines. Nothing of its reader is used here, so that the two are held against
 //! each other.
@@ -187,6 +188,11 @@ mod tests {
     const AFFILIATED_ANSWER: &str = "unit,supplier,verdict,left,schedule,kind,cost\r\n\
         11,1,F,0,2,C,1030000\r\n12,2,F,0,1,M,330000\r\n13,3,F,0,1,C,890000\r\n14,4,F,0,1,M,500000\r\n";
 
+    /// An answer with a curve of unit 11's C schedule, by which its price is 2000 and capped 2200.
+    fn with_curve(answer: &str) -> String {
+        answer.replace("2,C,1030000", "2,C,920000")
+    }
+
     /// What is said of an accepted study of the starred example.
     fn ok_starred(answer: &str) -> String {
         format!("ok {} 5;11:C:2,12:M:1,13:C:1,14:M:1", Hex(answer.as_bytes()))
@@ -196,19 +202,35 @@ mod tests {
     fn studies() {
         let ok = ok_starred(STARRED_ANSWER);
         let length = STARRED_ANSWER.len();
-        assert_eq!(ask(&format!("study - {} . 4096", starred())), ok);
-        assert_eq!(ask(&format!("study - {} . {length}", starred())), ok);
-        assert_eq!(ask(&format!("study - {} . {}", starred(), length - 1)), "no 10 0 0");
-        assert_eq!(ask(&format!("study 6; {} . 4096", starred())), "no 20 0 0");
-        assert_eq!(ask(&format!("study 24; {} . 4096", starred())), "no 24 0 0");
-        assert_eq!(ask("study - . . . . 4096"), "no 2 1 0");
+        assert_eq!(ask(&format!("study - {} . . 4096", starred())), ok);
+        assert_eq!(ask(&format!("study - {} . . {length}", starred())), ok);
+        assert_eq!(ask(&format!("study - {} . . {}", starred(), length - 1)), "no 10 0 0");
+        assert_eq!(ask(&format!("study 6; {} . . 4096", starred())), "no 20 0 0");
+        assert_eq!(ask(&format!("study 24; {} . . 4096", starred())), "no 24 0 0");
+        assert_eq!(ask("study - . . . . . 4096"), "no 2 1 0");
+    }
+
+    #[test]
+    fn studies_with_curves() {
+        let study = |points: &str, parents: &str| {
+            let curves = format!("unit,schedule,hour,mw,price\r\n{points}");
+            let [curves, parents] = [&curves, parents].map(|file| Hex(file.as_bytes()).to_string());
+            ask(&format!("study - {} {curves} {parents} 4096", starred()))
+        };
+        let curve = "11,2,5,50,1000\r\n11,2,5,100,2000\r\n";
+        assert_eq!(study("", ""), ok_starred(STARRED_ANSWER));
+        assert_eq!(study(curve, ""), ok_starred(&with_curve(STARRED_ANSWER)));
+        assert_eq!(study(curve, "supplier,parent\r\n1,2"), ok_starred(&with_curve(AFFILIATED_ANSWER)));
+        assert_eq!(study("11,3,5,100,1\r\n", ""), "no 32 4 1");
+        assert_eq!(study("11,2,5,100,1\r\n11,2,5,100,2\r\n", ""), "no 33 4 2");
+        assert_eq!(study("11,2,5,99,1\r\n", "\t"), "no 34 4 1");
     }
 
     #[test]
     fn studies_with_parents() {
         let study = |rows: &str| {
             let parents = format!("supplier,parent\r\n{rows}");
-            ask(&format!("study - {} {} 4096", starred(), Hex(parents.as_bytes())))
+            ask(&format!("study - {} . {} 4096", starred(), Hex(parents.as_bytes())))
         };
         assert_eq!(study(""), ok_starred(STARRED_ANSWER));
         assert_eq!(study("1,2\r\n"), ok_starred(AFFILIATED_ANSWER));
@@ -218,7 +240,7 @@ mod tests {
 
     #[test]
     fn previews() {
-        let preview = |day: &str, unit: u64| ask(&format!("preview {day} {} . {unit}", starred()));
+        let preview = |day: &str, unit: u64| ask(&format!("preview {day} {} . . {unit}", starred()));
         assert_eq!(preview("-", 11), "ok 11,1,F,0,2,C,1030000");
         assert_eq!(preview("-", 14), "ok 14,4,F,5000000,1,M,500000");
         assert_eq!(preview("n;14:C:2", 14), "ok 14,4,F,5000000,2,C,220000");
@@ -228,14 +250,24 @@ mod tests {
         assert_eq!(preview("6;", 15), "no 20 0 0");
         assert_eq!(preview("24;", 15), "no 24 0 0");
         assert_eq!(preview("5;12:M:1,11:M:1", 14), "no 24 0 0");
-        assert_eq!(ask("preview - . . . . 14"), "no 2 1 0");
+        assert_eq!(ask("preview - . . . . . 14"), "no 2 1 0");
+    }
+
+    #[test]
+    fn previews_with_curves() {
+        let preview = |points: &str, unit: u64| {
+            let curves = format!("unit,schedule,hour,mw,price\r\n{points}");
+            ask(&format!("preview - {} {} . {unit}", starred(), Hex(curves.as_bytes())))
+        };
+        assert_eq!(preview("11,2,5,50,1000\r\n11,2,5,100,2000\r\n", 11), "ok 11,1,F,0,2,C,920000");
+        assert_eq!(preview("11,2,5,99,1\r\n", 15), "no 34 4 1");
     }
 
     #[test]
     fn previews_with_parents() {
         let preview = |rows: &str, unit: u64| {
             let parents = format!("supplier,parent\r\n{rows}");
-            ask(&format!("preview - {} {} {unit}", starred(), Hex(parents.as_bytes())))
+            ask(&format!("preview - {} . {} {unit}", starred(), Hex(parents.as_bytes())))
         };
         assert_eq!(preview("1,2\r\n", 14), "ok 14,4,F,0,1,M,500000");
         assert_eq!(preview("1,2\r\n1,2\r\n", 15), "no 35 5 2");

@@ -3,7 +3,7 @@
 use Prim.Native.Nat.{ℕ, _+_, _*_}
 use mathlib.Core.List.{List, map}
 use lib.ListN.{getD}
-use Rattle.tables.specs.Rows.{SupplyRow, ScheduleRow, ParentRow}
+use Rattle.tables.specs.Rows.{SupplyRow, ScheduleRow, PointRow, ParentRow}
 use Rattle.tables.specs.declared.answer.AnswerRow.{AnswerRow}
 use Rattle.tables.specs.promises.FlatRows.{rowsOf}
 
@@ -13,6 +13,9 @@ supplyWidth = 5
 
 abbrev pub scheduleWidth : ℕ
 scheduleWidth = 9
+
+abbrev pub pointWidth : ℕ
+pointWidth = 5
 
 abbrev pub parentWidth : ℕ
 parentWidth = 2
@@ -42,6 +45,16 @@ scheduleAt cs i =
       noload = getD cs (i * scheduleWidth + 6) 0;
       startup = getD cs (i * scheduleWidth + 7) 0;
       minrun = getD cs (i * scheduleWidth + 8) 0;
+    }
+
+abbrev pub pointAt : List ℕ → ℕ → PointRow
+pointAt cs i =
+    record {
+      unit = getD cs (i * pointWidth + 0) 0;
+      schedule = getD cs (i * pointWidth + 1) 0;
+      hour = getD cs (i * pointWidth + 2) 0;
+      mw = getD cs (i * pointWidth + 3) 0;
+      price = getD cs (i * pointWidth + 4) 0;
     }
 
 abbrev pub parentAt : List ℕ → ℕ → ParentRow

@@ -6,6 +6,7 @@ use mathlib.Core.List.{List}
 use mathlib.Core.Option.{Option, none, some}
 use lib.ListN.{length, take}
 use Rattle.base.specs.Search.{firstOf}
+use Rattle.tables.specs.Rows.{ScheduleRow}
 use Rattle.tables.specs.declared.files.File.the-variants.{Constraint, Supply}
 use Rattle.tables.specs.declared.files.Reading.{Reading}
 use Rattle.tables.specs.declared.files.Reading.the-variants.{Rows as RowsRead, Refused as NotRead}
@@ -13,7 +14,7 @@ use Rattle.tables.specs.declared.files.Refusal.{Refusal}
 use Rattle.tables.specs.promises.FlatRows.{supplyRows, scheduleRows}
 use Rattle.links.specs.promises.Links.{RowsLinked}
 use Rattle.supply.specs.Supply.{units}
-use Rattle.checking.specs.Files.{constraintOf, supplyOf, schedulesOf, aloneRefusals}
+use Rattle.checking.specs.Files.{constraintOf, supplyOf, aloneRefusals}
 use Rattle.checking.specs.declared.constraint_file.ConstraintCheck.{ConstraintCheck}
 use Rattle.checking.specs.declared.constraint_file.ConstraintCheck.the-variants.{Row, Refused as ConstraintRefused}
 use Rattle.checking.specs.declared.supply_file.SupplyCheck.{SupplyCheck}
@@ -46,12 +47,12 @@ abbrev pub rowsUnless : Option Refusal → ℕ → Reading
 rowsUnless none n = RowsRead n
 rowsUnless (some r) n = NotRead r
 
--- the rows of schedules at the start of a run of cells, and linked
-pub record SchedulesKept (s cells links : List ℕ) : Type 0 where
-  pub rows : scheduleRows (length (schedulesOf s)) cells ≡ schedulesOf s
-  pub linked : RowsLinked cells (length (schedulesOf s)) links
+-- rows of schedules at the start of a run of cells, and linked
+pub record SchedulesKept (rows : List ScheduleRow) (cells links : List ℕ) : Type 0 where
+  pub laid : scheduleRows (length rows) cells ≡ rows
+  pub linked : RowsLinked cells (length rows) links
 
--- schedules as far as some of its refusals
-pub record SchedulesChecked (refusals : List (Option Refusal)) (s cells links : List ℕ) (r : Reading) : Type 0 where
-  pub answers : r ≡ rowsUnless (firstOf refusals) (length (schedulesOf s))
-  pub kept : firstOf refusals ≡ none → SchedulesKept s cells links
+-- such rows, as far as some refusals
+pub record SchedulesChecked (refusals : List (Option Refusal)) (rows : List ScheduleRow) (cells links : List ℕ) (r : Reading) : Type 0 where
+  pub answers : r ≡ rowsUnless (firstOf refusals) (length rows)
+  pub kept : firstOf refusals ≡ none → SchedulesKept rows cells links

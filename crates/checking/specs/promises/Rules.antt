@@ -1,7 +1,7 @@
 -- A rule over schedule rows as the code asks it: what is at fault, and the number of its refusal. Assumes nothing.
 use Prim.Native.Nat.{ℕ}
 use mathlib.Core.Bool.{cond}
-use mathlib.Core.List.{List, _∷_}
+use mathlib.Core.List.{List, _∷_, _++_}
 use mathlib.Core.Option.{Option, none, some, Option·map}
 use lib.Dec.{eqb}
 use Rattle.tables.specs.Rows.{ScheduleRow}
@@ -14,7 +14,7 @@ use Rattle.schedules.specs.Schedules.{notInSupply, unscheduled}
 use Rattle.schedules.specs.declared.rows.Lowest.{Lowest}
 use Rattle.schedules.specs.declared.rows.Lowest.the-variants.{Number, Nothing}
 use Rattle.schedules.specs.Runs.{lacking}
-use Rattle.checking.specs.Files.{unitsRefusals}
+use Rattle.checking.specs.Files.{curvesRefusals, unitsRefusals}
 use Rattle.checking.specs.declared.rules.Rule.{Rule}
 use Rattle.checking.specs.declared.rules.Rule.the-variants.{NotInSupply, Unscheduled, Lacking}
 
@@ -43,6 +43,10 @@ abbrev pub refusalIn : Reading → Option Refusal
 refusalIn (RowsRead n) = none
 refusalIn (NotRead r) = some r
 
--- all of them, of rows that were read, where another file's refusal waits for its turn
-unfoldable pub heldRefusals : Option Refusal → ℕ → List ℕ → List ScheduleRow → List (Option Refusal)
-heldRefusals waiting hour us rs = Option·map (refused 7 Schedules) (notInSupply us rs) ∷ waiting ∷ unitsRefusals hour us rs
+-- of rows that were read, all behind 7: those of curves, another file's refusal that waits for its turn, 8 and 9
+unfoldable pub pricedRefusals : Option Refusal → ℕ → List ℕ → List ScheduleRow → List ℕ → List (Option Refusal)
+pricedRefusals waiting hour us rs k = curvesRefusals rs k ++ (waiting ∷ unitsRefusals hour us rs)
+
+-- and with 7
+unfoldable pub heldRefusals : Option Refusal → ℕ → List ℕ → List ScheduleRow → List ℕ → List (Option Refusal)
+heldRefusals waiting hour us rs k = Option·map (refused 7 Schedules) (notInSupply us rs) ∷ pricedRefusals waiting hour us rs k

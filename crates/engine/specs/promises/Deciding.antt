@@ -14,7 +14,8 @@ use Rattle.tables.specs.declared.files.Refusal.{Refusal}
 use Rattle.cells.specs.promises.Views.{answerRows, answerWidth}
 use Rattle.supply.specs.Supply.{mostUnits, units}
 use Rattle.cells.specs.promises.Letters.{Lettered}
-use Rattle.checking.specs.Files.{Files, constraintOf, schedulesOf, parentsOf, aloneRefusals, besideRefusals}
+use Rattle.checking.specs.Files.{Files, constraintOf, parentsOf, aloneRefusals, besideRefusals}
+use Rattle.checking.specs.promises.Curves.{pricedRows}
 use Rattle.affiliates.specs.Affiliates.{grouped}
 use Rattle.tables.specs.declared.files.File.the-variants.{Parents}
 use Rattle.decision.specs.promises.Naming.{supplierOf}
@@ -46,7 +47,7 @@ module _ (o : Option Refusal) (hour : ℕ) (rows : List AnswerRow) (running : Li
     pub refuses : (e : Refusal) → r ≡ Refused e → o ≡ some e
     pub decides : (h k : ℕ) → r ≡ Rows h k → Laid h k
 
--- deciding the rows of a study's files, deciding schedules for a market that passed while another refusal waits for its turn,
+-- deciding the rows of a study's files, deciding schedules and curves for a market that passed while another refusal waits for its turn,
 -- deciding them by the groups of parents, and deciding all files
 abbrev pub DecidesFromRows : Day → ConstraintRow → List SupplyRow → List ScheduleRow → List ℕ → Deciding → Type 0
 DecidesFromRows day c supply scheduled new r =
@@ -55,23 +56,23 @@ DecidesFromRows day c supply scheduled new r =
     new
     r
 
-abbrev pub DecidesMarket : Day → ConstraintRow → List SupplyRow → Option Refusal → List ℕ → List ℕ → Deciding → Type 0
-DecidesMarket day c supply waiting s new r =
+abbrev pub DecidesMarket : Day → ConstraintRow → List SupplyRow → Option Refusal → List ℕ → List ℕ → List ℕ → Deciding → Type 0
+DecidesMarket day c supply waiting s k new r =
     Decides
-    (firstOf (besideRefusals (waiting ∷ []) (c .hour) (units supply) s ++ rowsRefusals (viewOf day) c supply (schedulesOf s)))
+    (firstOf (besideRefusals (waiting ∷ []) (c .hour) (units supply) s k ++ rowsRefusals (viewOf day) c supply (pricedRows s k)))
     (c .hour)
-    (decided c supply (schedulesOf s) (viewOf day .running) supply)
+    (decided c supply (pricedRows s k) (viewOf day .running) supply)
     (viewOf day .running)
     new
     r
 
-abbrev pub DecidesGroups : Day → ConstraintRow → List SupplyRow → List ℕ → List ℕ → List ℕ → Deciding → Type 0
-DecidesGroups day c ungrouped s p new r =
+abbrev pub DecidesGroups : Day → ConstraintRow → List SupplyRow → List ℕ → List ℕ → List ℕ → List ℕ → Deciding → Type 0
+DecidesGroups day c ungrouped s k p new r =
     Decides
     (firstOf
-    (besideRefusals (aloneRefusals Parents p) (c .hour) (units ungrouped) s ++ rowsRefusals (viewOf day) c ungrouped (schedulesOf s)))
+    (besideRefusals (aloneRefusals Parents p) (c .hour) (units ungrouped) s k ++ rowsRefusals (viewOf day) c ungrouped (pricedRows s k)))
     (c .hour)
-    (decided c (grouped (parentsOf p) ungrouped) (schedulesOf s) (viewOf day .running) ungrouped)
+    (decided c (grouped (parentsOf p) ungrouped) (pricedRows s k) (viewOf day .running) ungrouped)
     (viewOf day .running)
     new
     r

@@ -15,7 +15,7 @@ same-length c = search needs
 
 returns : tie.Need-returns
 returns c =
-    let start = c .before .before .before .before .before .before .before .before .before .before in
+    let start = c .before .before .before .before .before .before .before .before .before .before .before in
     let fresh = c .before .before .before .before .fresh .ensures .0 in
     let studies = c .before .before .study .ensures .0 in
     (studies-fresh _ _ _ _ _ studies fresh, (never-short _ _ _ _ _ studies (start .pre), count-within _ _ _ _ _ studies))

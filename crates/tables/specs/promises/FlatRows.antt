@@ -2,7 +2,7 @@
 use Prim.Native.Nat.{ℕ, zero, suc}
 use mathlib.Core.List.{List, [], _∷_, map}
 use lib.ListN.{take, drop}
-use Rattle.tables.specs.Rows.{SupplyRow, ScheduleRow, ParentRow, supplyRow, scheduleRow, parentRow}
+use Rattle.tables.specs.Rows.{SupplyRow, ScheduleRow, PointRow, ParentRow, supplyRow, scheduleRow, pointRow, parentRow}
 
 -- the first n rows of w cells each
 unfoldable pub rowsOf : ℕ → ℕ → List ℕ → List (List ℕ)
@@ -14,6 +14,9 @@ supplyRows n cs = map supplyRow (rowsOf 5 n cs)
 
 unfoldable pub scheduleRows : ℕ → List ℕ → List ScheduleRow
 scheduleRows n cs = map scheduleRow (rowsOf 9 n cs)
+
+unfoldable pub pointRows : ℕ → List ℕ → List PointRow
+pointRows n cs = map pointRow (rowsOf 5 n cs)
 
 unfoldable pub parentRows : ℕ → List ℕ → List ParentRow
 parentRows n cs = map parentRow (rowsOf 2 n cs)

@@ -4,9 +4,9 @@ use Prim.Native.Nat.{ℕ, _+_, _≤_}
 use mathlib.Core.Path.{_≡_}
 use mathlib.Core.Logic.{_⊎_}
 use mathlib.Core.List.{List, [], _∷_}
-use Rattle.tables.specs.Rows.{SupplyRow, ScheduleRow, ParentRow}
+use Rattle.tables.specs.Rows.{SupplyRow, ScheduleRow, PointRow, ParentRow}
 use Rattle.tables.specs.declared.constraint.ConstraintRow.{ConstraintRow}
-use Rattle.tables.specs.Table.{Form, numeral, signed, letter, Column, M, C, latestHour, highestSupplier, highestCost}
+use Rattle.tables.specs.Table.{Form, numeral, signed, letter, Column, M, C, latestHour, highestSupplier, highestEcomin, highestCost}
 
 -- a number within its column's range
 abbrev pub permits : Form → ℕ → ℕ → ℕ → Type 0
@@ -44,12 +44,21 @@ pub record PermittedSchedule (r : ScheduleRow) : Type 0 where
   pub schedule : r .schedule ≤ 99
   pub kind : (r .kind ≡ C) ⊎ (r .kind ≡ M)
   pub hour : r .hour ≤ latestHour
-  pub ecomin : r .ecomin ≤ 100000
+  pub ecomin : r .ecomin ≤ highestEcomin
   pub price : r .price ≤ highestCost
   pub noload : r .noload ≤ 100000000
   pub startup : r .startup ≤ 100000000
   pub some-minrun : 1 ≤ r .minrun
   pub minrun : r .minrun ≤ 24
+
+pub record PermittedPoint (r : PointRow) : Type 0 where
+  pub some-unit : 1 ≤ r .unit
+  pub unit : r .unit ≤ 9999
+  pub some-schedule : 1 ≤ r .schedule
+  pub schedule : r .schedule ≤ 99
+  pub hour : r .hour ≤ latestHour
+  pub mw : r .mw ≤ highestEcomin
+  pub price : r .price ≤ highestCost
 
 pub record PermittedParent (r : ParentRow) : Type 0 where
   pub some-supplier : 1 ≤ r .supplier

@@ -1,10 +1,12 @@
 //! Drafts: studies that nothing refuses, of every size, with many ties and edges in them.
 
+use super::curves::make_curves;
 use super::random::Random;
 use super::supply::{make_market, Size};
+use crate::curves::belongs;
 use crate::day::{Day, Running};
 use crate::market::capped;
-use crate::table::{Constraint, Kind, Parent, Schedule, Supply};
+use crate::table::{Constraint, Kind, Parent, Point, Schedule, Supply};
 
 /// The most rows of the schedules file.
 const SCHEDULE_ROWS: usize = 1024;
@@ -14,6 +16,7 @@ pub struct Draft {
     pub constraint: Constraint,
     pub supply: Vec<Supply>,
     pub schedules: Vec<Schedule>,
+    pub curves: Vec<Point>,
     pub parents: Vec<Parent>,
     pub day: Day,
 }
@@ -24,22 +27,22 @@ impl Draft {
         let size = Size::make(random);
         let hour = make_hour(random);
         let (constraint, supply, parents) = make_market(size, hour, random);
-        let mut draft = Draft { constraint, supply, schedules: Vec::new(), parents, day: Day::fresh() };
+        let (schedules, curves, day) = (Vec::new(), Vec::new(), Day::fresh());
+        let mut draft = Draft { constraint, supply, schedules, curves, parents, day };
         let plan = Plan { hour, brief: random.percent(85) };
         draft.schedules = plan.schedules(&draft.units(), random);
         draft.day = make_day(&draft, random);
         draft.mix(random);
+        draft.curves = make_curves(&draft.schedules, hour, random);
         draft
     }
 
     /// A draft at every limit, with long numerals: its schedules can fill 65,536 bytes.
     pub fn make_brimming(random: &mut Random) -> Draft {
         let (constraint, supply, parents) = make_market(Size::LARGEST, 8, random);
-        let mut draft = Draft { constraint, supply, schedules: Vec::new(), parents, day: Day::fresh() };
-        let units = draft.units();
-        for row in &mut draft.supply {
-            row.unit = 9_000 + units.iter().filter(|&&unit| unit < row.unit).count() as u64;
-        }
+        let (schedules, curves, day) = (Vec::new(), Vec::new(), Day::fresh());
+        let mut draft = Draft { constraint, supply, schedules, curves, parents, day };
+        draft.number_from(9_000);
         for unit in draft.units() {
             let schedule = random.between(10, 99);
             let kind = random.pick(&[Kind::M, Kind::C]);
@@ -56,7 +59,16 @@ impl Draft {
                 minrun: 16,
             }));
         }
+        draft.curves = make_curves(&draft.schedules, 8, random);
         draft
+    }
+
+    /// Gives the units of the supply rows numbers one after the other, in their order.
+    pub fn number_from(&mut self, first: u64) {
+        let units = self.units();
+        for row in &mut self.supply {
+            row.unit = first + units.iter().filter(|&&unit| unit < row.unit).count() as u64;
+        }
     }
 
     /// The units of the supply rows, by rising number.
@@ -78,6 +90,11 @@ impl Draft {
                 return unit;
             }
         }
+    }
+
+    /// Takes the points away whose schedule rows are gone.
+    pub fn drop_stray_points(&mut self) {
+        self.curves.retain(|point| self.schedules.iter().any(|row| belongs(point, row)));
     }
 
     /// Sometimes puts the rows in another order.
@@ -215,11 +232,7 @@ fn make_charge(random: &mut Random) -> u64 {
 /// a C row.
 fn make_twin(first: &Schedule, twin: &Schedule, random: &mut Random) -> Schedule {
     let mut schedule = Schedule { schedule: first.schedule, kind: first.kind, hour: first.hour, ..*twin };
-    match (schedule.kind, twin.kind) {
-        (Kind::M, Kind::C) => schedule.price = capped(twin.price),
-        (Kind::C, Kind::M) => schedule.price = uncapped(twin.price),
-        _ => {}
-    }
+    schedule.price = price_like(schedule.kind, twin);
     match random.between(0, 9) {
         0 => schedule.noload = (schedule.noload + 1).min(100_000_000),
         1 => schedule.startup = (schedule.startup + 1).min(100_000_000),
@@ -228,6 +241,15 @@ fn make_twin(first: &Schedule, twin: &Schedule, random: &mut Random) -> Schedule
         _ => {}
     }
     schedule
+}
+
+/// The price with which a row of a kind offers what another row does, or all but.
+pub fn price_like(kind: Kind, other: &Schedule) -> u64 {
+    match (kind, other.kind) {
+        (Kind::M, Kind::C) => capped(other.price),
+        (Kind::C, Kind::M) => uncapped(other.price),
+        _ => other.price,
+    }
 }
 
 /// The cost whose capped offer comes nearest to an offer from below.
@@ -240,7 +262,7 @@ pub fn uncapped(offer: u64) -> u64 {
 }
 
 /// A day that the draft can be studied on.
-fn make_day(draft: &Draft, random: &mut Random) -> Day {
+pub fn make_day(draft: &Draft, random: &mut Random) -> Day {
     if random.percent(30) {
         return Day::fresh();
     }

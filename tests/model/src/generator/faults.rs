@@ -3,15 +3,23 @@
 use super::draft::{others_running, Draft};
 use super::parents::{close_ring, give_twice};
 use super::random::Random;
-use super::sheet::Sheet;
+use super::sheet::{Sheet, LARGEST_FILE};
 use crate::case::LONGEST_LIST;
-use crate::csv::Field;
+use crate::csv::{Field, Record};
 use crate::day::{Day, Running};
 use crate::table::{Kind, Range, Schedule, Supply};
 
 /// The refusals of a study, those most often that can come about in the most ways.
-pub const NUMBERS: [u64; 24] =
-    [1, 1, 2, 2, 3, 3, 3, 3, 4, 5, 6, 6, 7, 8, 9, 10, 20, 21, 22, 24, 35, 35, 36, 36];
+pub const NUMBERS: [u64; 32] = [
+    1, 1, 2, 2, 3, 3, 3, 3, 4, 5, 6, 6, 7, 8, 9, 10, 20, 21, 22, 24, 32, 32, 33, 33, 33, 34, 34, 34, 35, 35,
+    36, 36,
+];
+
+/// The refusals of the curves; 1 to 4 can be theirs as well.
+const OF_CURVES: [u64; 10] = [1, 2, 3, 4, 32, 32, 33, 33, 34, 34];
+
+/// The refusals around those of the curves in the order, and those of the curves themselves.
+const AROUND_CURVES: [u64; 17] = [1, 1, 2, 2, 3, 3, 4, 5, 6, 7, 7, 8, 9, 32, 33, 34, 36];
 
 /// None, one or two of several numbers.
 pub fn make_faults(numbers: &[u64], random: &mut Random) -> Vec<u64> {
@@ -19,7 +27,17 @@ pub fn make_faults(numbers: &[u64], random: &mut Random) -> Vec<u64> {
     (0..count).map(|_| random.pick(numbers)).collect()
 }
 
-/// Puts a fault into the rows or the day. The numbers 1 to 4 are faults of the text instead.
+/// The faults of a study or a preview: at times one of the curves beside one around them in the order, to
+/// see which of the two comes first.
+pub fn make_study_faults(numbers: &[u64], random: &mut Random) -> Vec<u64> {
+    if random.once_in(6) {
+        return vec![random.pick(&OF_CURVES), random.pick(&AROUND_CURVES)];
+    }
+    make_faults(numbers, random)
+}
+
+/// Puts a fault into the rows or the day. The numbers 1 to 4 are faults of the text instead, and curves are
+/// spoilt once the rows are.
 pub fn spoil_draft(number: u64, draft: &mut Draft, random: &mut Random) {
     match number {
         5 => crowd(draft, random),
@@ -328,14 +346,13 @@ fn spoil_row_count(sheet: &mut Sheet, random: &mut Random) {
         sheet.records.truncate(1);
         return;
     }
-    let row = match sheet.some_row(random) {
-        Some(place) => sheet.records[place].clone(),
-        None => vec![b"1".to_vec(); sheet.table.columns.len()],
-    };
-    let rows = most + random.pick(&[1, 1, 2]);
-    while sheet.records.len() < rows + 1 {
-        sheet.records.push(row.clone());
-    }
+    let shortest = vec![b"1".to_vec(); sheet.table.columns.len()];
+    let row = sheet.some_row(random).map_or(shortest.clone(), |place| sheet.records[place].clone());
+    let missing = (most + random.pick(&[1, 1, 2])).saturating_sub(sheet.records.len() - 1);
+    let length = |row: &Record| row.iter().map(|field| field.len() + 1).sum::<usize>() + 1;
+    let taken: usize = sheet.records.iter().map(length).sum();
+    let fits = taken + missing * length(&row) <= LARGEST_FILE;
+    sheet.records.extend(vec![if fits { row } else { shortest }; missing]);
 }
 
 #[cfg(test)]

@@ -2,13 +2,16 @@
 //! be handed back tidy, releases, lone tests, and lines that can't be read. The case of a seed and an index
 //! is always the same.
 
+mod curves;
 mod draft;
 mod faults;
+mod full;
 mod lines;
 mod parents;
 mod preview;
 pub mod random;
 pub mod sheet;
+mod spoilt_curves;
 mod supply;
 mod tidy;
 
@@ -17,9 +20,10 @@ use crate::case::{Case, StudyFiles, ThreeFiles, LONGEST_BUFFER};
 use crate::day::Day;
 use crate::rules::Files;
 use draft::Draft;
-use faults::{make_faults, spoil_draft, spoil_sheet, NUMBERS};
+use faults::{make_faults, make_study_faults, spoil_draft, spoil_sheet, NUMBERS};
 use random::Random;
 use sheet::{damage, disturb, Sheet, LARGEST_FILE};
+use spoilt_curves::spoil_curves;
 
 /// The seed and the number of the cases that every change is held against.
 pub const GATE_SEED: u64 = 20_260_701;
@@ -55,7 +59,7 @@ pub fn make(seed: u64, index: u64) -> Line {
 
 /// A study: most accepted, some with one fault, some with two.
 fn make_study(random: &mut Random) -> Case {
-    let faults = make_faults(&NUMBERS, random);
+    let faults = make_study_faults(&NUMBERS, random);
     let (Draft { day, .. }, files) = make_files(&faults, random);
     let buffer = make_buffer(faults.contains(&10), &day, &files.lend(), random);
     Case::Study { day, files, buffer }
@@ -73,18 +77,19 @@ fn make_files(faults: &[u64], random: &mut Random) -> (Draft, StudyFiles) {
     if random.once_in(400) {
         return make_brimming(random);
     }
-    let mut draft = Draft::make(random);
-    for &number in faults {
-        spoil_draft(number, &mut draft, random);
-    }
+    // A fault at a late record is rare, so faults of the curves come in full ones more often.
+    let of_curves = faults.iter().any(|number| (32..=34).contains(number));
+    let full = random.once_in(if of_curves { 16 } else { 150 });
+    let mut draft = if full { Draft::make_full(random) } else { Draft::make(random) };
+    spoil(faults, &mut draft, random);
     let mut sheets = sheets(&draft);
     for &number in faults {
-        let file = random.index(sheets.len());
+        let file = make_place(random);
         spoil_sheet(number, &mut sheets[file], random);
     }
     let StudyFiles(mut files) = write(sheets, random);
     for _ in faults.iter().filter(|&&number| number == 1) {
-        let file = random.index(files.len());
+        let file = make_place(random);
         damage(&mut files[file], random);
     }
     if random.once_in(40) {
@@ -94,41 +99,73 @@ fn make_files(faults: &[u64], random: &mut Random) -> (Draft, StudyFiles) {
     (draft, StudyFiles(files))
 }
 
-fn sheets(draft: &Draft) -> [Sheet; 4] {
+/// Where among the files a fault of the text is: most often in the curves, which have refusals before and
+/// behind them.
+fn make_place(random: &mut Random) -> usize {
+    if random.percent(25) {
+        return StudyFiles::CURVES;
+    }
+    random.pick(&[0, 1, StudyFiles::SCHEDULES, StudyFiles::CURVES, StudyFiles::PARENTS])
+}
+
+/// Puts faults into a draft, those of the curves last: where rows are gone, their points mostly are too.
+fn spoil(faults: &[u64], draft: &mut Draft, random: &mut Random) {
+    for &number in faults {
+        spoil_draft(number, draft, random);
+    }
+    if random.percent(85) {
+        draft.drop_stray_points();
+    }
+    for &number in faults {
+        spoil_curves(number, draft, random);
+    }
+}
+
+fn sheets(draft: &Draft) -> [Sheet; 5] {
     [
         Sheet::constraint(&draft.constraint),
         Sheet::supply(&draft.supply),
         Sheet::schedules(&draft.schedules),
+        Sheet::curves(&draft.curves),
         Sheet::parents(&draft.parents),
     ]
 }
 
-/// The bytes of the sheets. Parents of the header alone may as well be no bytes.
-fn write(sheets: [Sheet; 4], random: &mut Random) -> StudyFiles {
-    let no_parents = sheets[StudyFiles::PARENTS].records == Sheet::parents(&[]).records;
-    let files = StudyFiles(sheets.map(|sheet| sheet.write(random)));
-    if no_parents && random.percent(60) {
-        return files.without(StudyFiles::PARENTS);
+/// The bytes of the sheets. Curves and parents of the header alone may as well be no bytes.
+fn write(sheets: [Sheet; 5], random: &mut Random) -> StudyFiles {
+    let mut files = sheets.each_ref().map(|sheet| sheet.write(random));
+    for place in [StudyFiles::CURVES, StudyFiles::PARENTS] {
+        let header_alone = sheets[place].records == [sheets[place].table.header()];
+        if header_alone && random.percent(60) {
+            files[place].clear();
+        }
     }
-    files
+    StudyFiles(files)
 }
 
-/// Files of which one is as large as the program takes: schedules that are accepted, or a field that
-/// goes on and on.
+/// Files of which one is as large as the program takes: schedules or curves that are accepted, or a field
+/// that goes on and on.
 fn make_brimming(random: &mut Random) -> (Draft, StudyFiles) {
-    let draft = Draft::make_brimming(random);
-    let mut sheets = sheets(&draft);
-    let schedules = &mut sheets[StudyFiles::SCHEDULES];
-    let full = if random.percent(50) { Some(schedules.write_brimming(random)) } else { None };
-    let StudyFiles(mut files) = write(sheets, random);
-    match full {
-        Some(schedules) => files[StudyFiles::SCHEDULES] = schedules,
-        None => {
+    match random.between(0, 5) {
+        0..=1 => brimming(Draft::make_brimming(random), StudyFiles::SCHEDULES, random),
+        2..=3 => brimming(Draft::make_full(random), StudyFiles::CURVES, random),
+        _ => {
+            let draft = Draft::make_brimming(random);
+            let StudyFiles(mut files) = write(sheets(&draft), random);
             let filler = random.pick(b"0159 ");
             let file = &mut files[random.index(files.len())];
             file.extend(std::iter::repeat_n(filler, LARGEST_FILE.saturating_sub(file.len())));
+            (draft, StudyFiles(files))
         }
     }
+}
+
+/// The files of a draft, of which one has as many quotes as the program takes.
+fn brimming(draft: Draft, place: usize, random: &mut Random) -> (Draft, StudyFiles) {
+    let mut sheets = sheets(&draft);
+    let full = sheets[place].write_brimming(random);
+    let StudyFiles(mut files) = write(sheets, random);
+    files[place] = full;
     (draft, StudyFiles(files))
 }
 
@@ -174,16 +211,28 @@ mod tests {
     }
 
     #[test]
-    fn brimming_schedules_are_accepted() {
+    fn brimming_schedules_and_curves_are_accepted() {
+        let mut largest_curves = 0;
         for index in 0..10 {
             let random = &mut Random::of(2, index);
-            let draft = Draft::make_brimming(random);
-            let mut sheets = sheets(&draft);
-            let schedules = sheets[StudyFiles::SCHEDULES].write_brimming(random);
-            assert_eq!(schedules.len(), LARGEST_FILE);
-            let mut files = write(sheets, random);
-            files.0[StudyFiles::SCHEDULES] = schedules;
+            let (draft, files) = brimming(Draft::make_brimming(random), StudyFiles::SCHEDULES, random);
+            assert_eq!(files.0[StudyFiles::SCHEDULES].len(), LARGEST_FILE);
             assert!(accepted(draft.day, &files), "{index}");
+            let (draft, files) = brimming(Draft::make_full(random), StudyFiles::CURVES, random);
+            largest_curves = largest_curves.max(files.0[StudyFiles::CURVES].len());
+            assert!(accepted(draft.day, &files), "{index}");
+        }
+        assert_eq!(largest_curves, LARGEST_FILE);
+    }
+
+    #[test]
+    fn no_file_is_larger_than_the_program_takes() {
+        for index in 0..3_000 {
+            let case = Case::read(&make(4, index).bytes);
+            if let Some(Case::Study { files, .. } | Case::Preview { files, .. }) = case {
+                let longest = files.0.iter().map(Vec::len).max().unwrap_or(0);
+                assert!(longest <= LARGEST_FILE, "{index}: {longest}");
+            }
         }
     }
 

@@ -2,15 +2,16 @@
 //! is elsewhere or nowhere.
 
 use super::draft::{different, Draft};
-use super::faults::make_faults;
+use super::faults::make_study_faults;
 use super::make_files;
 use super::random::Random;
 use crate::case::Case;
 
 /// The faults of a preview: the refusals of a study but 10, and those of the day more often than there,
 /// since they come right before 31.
-const NUMBERS: [u64; 26] =
-    [1, 1, 2, 2, 3, 3, 4, 4, 5, 6, 6, 7, 8, 9, 20, 20, 21, 21, 22, 22, 22, 24, 24, 35, 36, 36];
+const NUMBERS: [u64; 30] = [
+    1, 1, 2, 2, 3, 3, 4, 4, 5, 6, 6, 7, 8, 9, 20, 20, 21, 21, 22, 22, 22, 24, 24, 32, 33, 34, 35, 35, 36, 36,
+];
 
 /// Unit numbers at the edges of their column, which ranges from 1 to 9999, and of the number's type.
 const EDGES: [u64; 7] = [0, 0, 1, 9_999, 10_000, 1 << 63, u64::MAX];
@@ -20,7 +21,7 @@ const WRAPS: [u64; 4] = [1 << 8, 1 << 16, 1 << 32, u64::MAX << 16];
 
 /// A preview: many without a fault, some with one, some with two.
 pub fn make_preview(random: &mut Random) -> Case {
-    let faults = make_faults(&NUMBERS, random);
+    let faults = make_study_faults(&NUMBERS, random);
     let (draft, files) = make_files(&faults, random);
     let unit = make_unit(&draft, random);
     Case::Preview { day: draft.day, files, unit }

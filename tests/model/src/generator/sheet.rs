@@ -2,8 +2,8 @@
 
 use super::random::Random;
 use crate::csv::{Field, Record};
-use crate::table::{Constraint, Parent, Schedule, Supply, Table};
-use crate::table::{CONSTRAINT, PARENTS, SCHEDULES, SUPPLY};
+use crate::table::{Constraint, Parent, Point, Schedule, Supply, Table};
+use crate::table::{CONSTRAINT, CURVES, PARENTS, SCHEDULES, SUPPLY};
 
 /// The largest file that the program takes.
 pub const LARGEST_FILE: usize = 65_536;
@@ -27,6 +27,10 @@ impl Sheet {
         Sheet::of(&SCHEDULES, rows.iter().map(Schedule::fields).collect())
     }
 
+    pub fn curves(points: &[Point]) -> Sheet {
+        Sheet::of(&CURVES, points.iter().map(Point::fields).collect())
+    }
+
     pub fn parents(rows: &[Parent]) -> Sheet {
         Sheet::of(&PARENTS, rows.iter().map(Parent::fields).collect())
     }
@@ -42,15 +46,18 @@ impl Sheet {
         (self.records.len() > 1).then(|| 1 + random.index(self.records.len() - 1))
     }
 
-    /// The bytes, in some way of quoting.
+    /// The bytes, in some way of quoting; without quotes where there is no room for them.
     pub fn write(&self, random: &mut Random) -> Vec<u8> {
         let quoted_percent = random.pick(&[0, 0, 0, 0, 20, 50, 100]);
         let mut bytes = self.join(|_| random.percent(quoted_percent));
+        if bytes.len() > LARGEST_FILE {
+            bytes = self.join(|_| false);
+        }
         drop_last_end(&mut bytes, random);
         bytes
     }
 
-    /// The bytes, made up to the largest file by quoting fields, or as they are where that can't be.
+    /// The bytes, made up to the largest file by quoting fields, or as near to it as that leads.
     pub fn write_brimming(&mut self, random: &mut Random) -> Vec<u8> {
         if self.join(|_| false).len() % 2 == 1 {
             self.shorten(random);
@@ -66,11 +73,12 @@ impl Sheet {
         self.join(|index| choice[index])
     }
 
-    /// Takes a digit from a numeral that no rule between rows looks at.
+    /// Takes a digit from a numeral that no rule between rows looks at, where there is a column of such.
     fn shorten(&mut self, random: &mut Random) {
         const NOLOAD: usize = 6;
-        if let Some(row) = self.some_row(random) {
-            self.records[row][NOLOAD].pop();
+        let Some(row) = self.some_row(random) else { return };
+        if let Some(noload) = self.records[row].get_mut(NOLOAD) {
+            noload.pop();
         }
     }
 

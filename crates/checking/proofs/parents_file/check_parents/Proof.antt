@@ -1,6 +1,8 @@
 -- No bytes, or what reading them gives. Assumes nothing.
 use native.Mathlib.Omega.{arith}
-use Rattle.checking.proofs.ParentsLaws.{no-parents-passed, some-bytes, parents-unread, parents-cells, parents-passed}
+use Rattle.tables.specs.declared.files.File.the-variants.{Parents}
+use Rattle.checking.proofs.FilesLaws.{some-bytes}
+use Rattle.checking.proofs.ParentsLaws.{no-parents-passed, parents-unread, parents-cells, parents-passed}
 use Rattle.checking.proofs.Rooms.{parents-room}
 use borrow.Author.Needs.{needs}
 use Rattle.checking.proofs.parents_file.check_parents.Statement.{statement}
@@ -25,16 +27,16 @@ slice-aggregate-group-rows : tie.Need-slice-aggregate-group-rows
 slice-aggregate-group-rows c = search needs
 
 group-rows-requires : tie.Need-group-rows-requires
-group-rows-requires c κs = (parents-cells _ _ _ _ (some-bytes _ (omega arith)) (c .before .before .before .before .before .before .read .ensures) _ (c .before .before .before .reading2 .given .1) (omega (arith, parents-room)), c .before .before .before .before .before .before .before .before .before .before .before .pre)
+group-rows-requires c κs = (parents-cells _ _ _ _ (some-bytes Parents _ (omega arith)) (c .before .before .before .before .before .before .read .ensures) _ (c .before .before .before .reading2 .given .1) (omega (arith, parents-room)), c .before .before .before .before .before .before .before .before .before .before .before .pre)
 
 returns-2 : tie.Need-returns-2
-returns-2 c = parents-unread _ _ _ _ (some-bytes _ (omega arith)) (c .before .before .before .before .read .ensures) _ _ (c .before .reading .given .1)
+returns-2 c = parents-unread _ _ _ _ (some-bytes Parents _ (omega arith)) (c .before .before .before .before .read .ensures) _ _ (c .before .reading .given .1)
 
 same-length : tie.Need-same-length
 same-length c = search needs
 
 returns-3 : tie.Need-returns-3
-returns-3 c = parents-passed _ _ _ _ (some-bytes _ (omega arith)) (c .before .before .before .before .before .before .before .before .before .read .ensures) _ (c .before .before .before .before .before .before .reading2 .given .1) _ _ _ _ (c .before .before .group-rows .ensures)
+returns-3 c = parents-passed _ _ _ _ (some-bytes Parents _ (omega arith)) (c .before .before .before .before .before .before .before .before .before .read .ensures) _ (c .before .before .before .before .before .before .reading2 .given .1) _ _ _ _ (c .before .before .group-rows .ensures)
 
 pub check-parents-spec : {M : Type 1} → statement M
 check-parents-spec =

@@ -23,7 +23,7 @@ same-length-2 : tie.Need-same-length-2
 same-length-2 c = search needs
 
 returns : tie.Need-returns
-returns c = beside-unread _ _ _ (c .before .before .before .before .before .before .before .read-schedules .ensures) _ _ _ (c .before .reading .given .1)
+returns c = beside-unread _ _ _ (c .before .before .before .before .before .before .before .read-schedules .ensures) _ _ _ _ (c .before .reading .given .1)
 
 same-length-3 : tie.Need-same-length-3
 same-length-3 c = search needs
@@ -32,7 +32,7 @@ same-length-4 : tie.Need-same-length-4
 same-length-4 c = search needs
 
 returns-2 : tie.Need-returns-2
-returns-2 c = beside-passed _ _ _ (c .before .before .before .before .before .before .before .before .before .before .read-schedules .ensures) _ (c .before .before .before .before .reading2 .given .1) _ _ _ _ (c .hold .ensures)
+returns-2 c = beside-passed _ _ _ (c .before .before .before .before .before .before .before .before .before .before .before .before .read-schedules .ensures) _ (c .before .before .before .before .before .before .reading2 .given .1) _ _ _ _ _ _ (c .before .before .hold .ensures)
 
 pub check-schedules-spec : {M : Type 1} → statement M
 check-schedules-spec =

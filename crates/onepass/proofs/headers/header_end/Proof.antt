@@ -1,6 +1,6 @@
 -- Each file's header. Assumes nothing.
-use Rattle.tables.specs.Table.{header, joined, headerText, constraintColumns, supplyColumns, schedulesColumns, parentsColumns}
-use Rattle.tables.specs.declared.files.File.the-variants.{Constraint, Supply, Schedules, Parents}
+use Rattle.tables.specs.Table.{header, joined, headerText, constraintColumns, supplyColumns, schedulesColumns, curvesColumns, parentsColumns}
+use Rattle.tables.specs.declared.files.File.the-variants.{Constraint, Supply, Schedules, Curves, Parents}
 use Rattle.onepass.proofs.HeaderLaws.{header-found}
 use borrow.Author.Needs.{needs}
 use Rattle.onepass.proofs.headers.header_end.Statement.{statement}
@@ -42,6 +42,15 @@ slice-aggregate-either-end-4 c = search needs
 either-end-requires-4 : tie.Need-either-end-requires-4
 either-end-requires-4 c κs = search needs
 
+enum-told-5 : tie.Need-enum-told-5
+enum-told-5 c = search needs
+
+slice-aggregate-either-end-5 : tie.Need-slice-aggregate-either-end-5
+slice-aggregate-either-end-5 c = search needs
+
+either-end-requires-5 : tie.Need-either-end-requires-5
+either-end-requires-5 c κs = search needs
+
 returns : tie.Need-returns
 unfolding headerText joined header constraintColumns
 returns c = rw (c .before .before .enum-told .given .1) (header-found Constraint _ _ (c .either-end .ensures))
@@ -55,8 +64,12 @@ unfolding headerText joined header schedulesColumns
 returns-3 c = rw (c .before .before .enum-told3 .given .1) (header-found Schedules _ _ (c .either-end3 .ensures))
 
 returns-4 : tie.Need-returns-4
+unfolding headerText joined header curvesColumns
+returns-4 c = rw (c .before .before .enum-told4 .given .1) (header-found Curves _ _ (c .either-end4 .ensures))
+
+returns-5 : tie.Need-returns-5
 unfolding headerText joined header parentsColumns
-returns-4 c = rw (c .before .before .enum-told4 .given .1) (header-found Parents _ _ (c .either-end4 .ensures))
+returns-5 c = rw (c .before .before .enum-told5 .given .1) (header-found Parents _ _ (c .either-end5 .ensures))
 
 pub header-end-spec : {M : Type 1} → statement M
 header-end-spec =
@@ -74,7 +87,11 @@ header-end-spec =
     enum-told-4
     slice-aggregate-either-end-4
     either-end-requires-4
+    enum-told-5
+    slice-aggregate-either-end-5
+    either-end-requires-5
     returns
     returns-2
     returns-3
-    returns-4)
+    returns-4
+    returns-5)

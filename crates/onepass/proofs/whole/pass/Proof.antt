@@ -1,7 +1,7 @@
 -- A header and rows. Assumes nothing.
 use mathlib.Core.Path.{refl}
 use native.Mathlib.Omega.{arith}
-use Rattle.tables.specs.Table.{constraintColumns, supplyColumns, schedulesColumns, parentsColumns}
+use Rattle.tables.specs.Table.{constraintColumns, supplyColumns, schedulesColumns, curvesColumns, parentsColumns}
 use Rattle.tables.specs.promises.Columns.{allColumns}
 use Rattle.onepass.proofs.FileLaws.{gave-up, is-passed}
 use borrow.Author.Needs.{needs}
@@ -33,7 +33,7 @@ slice-aggregate-lay-rows-3 : tie.Need-slice-aggregate-lay-rows-3
 slice-aggregate-lay-rows-3 c = search needs
 
 lay-rows-requires : tie.Need-lay-rows-requires
-unfolding allColumns constraintColumns supplyColumns schedulesColumns parentsColumns
+unfolding allColumns constraintColumns supplyColumns schedulesColumns curvesColumns parentsColumns
 lay-rows-requires c κs = (record { forms = refl; minima = refl; maxima = refl }, search needs)
 
 fewest-rows-requires : tie.Need-fewest-rows-requires

@@ -1,6 +1,6 @@
 -- A field by its column's form and range. Assumes nothing.
 use native.Mathlib.Omega.{arith}
-use Rattle.tables.specs.Table.{constraintColumns, supplyColumns, schedulesColumns, parentsColumns}
+use Rattle.tables.specs.Table.{constraintColumns, supplyColumns, schedulesColumns, curvesColumns, parentsColumns}
 use Rattle.tables.specs.promises.Columns.{allColumns}
 use Rattle.tables.proofs.ColumnLaws.{minimum-small, maximum-small, cell-numeral, cell-signed, cell-letter}
 use borrow.Author.Needs.{needs}
@@ -26,22 +26,22 @@ read-requires : tie.Need-read-requires
 read-requires c κs = search needs
 
 returns : tie.Need-returns
-unfolding allColumns constraintColumns supplyColumns schedulesColumns parentsColumns
+unfolding allColumns constraintColumns supplyColumns schedulesColumns curvesColumns parentsColumns
 returns c = cell-numeral (c .before .before .before .args .column) _ (c .before .if1 .taken) (c .read .ensures)
 
 excess-requires : tie.Need-excess-requires
-unfolding allColumns constraintColumns supplyColumns schedulesColumns parentsColumns
+unfolding allColumns constraintColumns supplyColumns schedulesColumns curvesColumns parentsColumns
 excess-requires c κs = omega (arith, minimum-small (c .before .before .before .args .column), maximum-small (c .before .before .before .args .column))
 
 returns-2 : tie.Need-returns-2
-unfolding allColumns constraintColumns supplyColumns schedulesColumns parentsColumns
+unfolding allColumns constraintColumns supplyColumns schedulesColumns curvesColumns parentsColumns
 returns-2 c = cell-signed (c .before .before .before .before .args .column) _ (c .before .if2 .taken) (c .excess .ensures)
 
 one-of-requires : tie.Need-one-of-requires
 one-of-requires c κs = search needs
 
 returns-3 : tie.Need-returns-3
-unfolding allColumns constraintColumns supplyColumns schedulesColumns parentsColumns
+unfolding allColumns constraintColumns supplyColumns schedulesColumns curvesColumns parentsColumns
 returns-3 c = cell-letter (c .before .before .before .before .args .column) _ (c .before .before .if1 .left) (c .before .if2 .left) (c .one-of .ensures)
 
 pub cell-spec : {M : Type 1} → statement M

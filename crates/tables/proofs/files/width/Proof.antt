@@ -1,5 +1,5 @@
 -- The columns of each file, counted. Assumes nothing.
-use Rattle.tables.specs.Table.{width, constraintColumns, supplyColumns, schedulesColumns, parentsColumns}
+use Rattle.tables.specs.Table.{width, constraintColumns, supplyColumns, schedulesColumns, curvesColumns, parentsColumns}
 use borrow.Author.Needs.{needs}
 use Rattle.tables.proofs.files.width.Statement.{statement}
 use Rattle.tables.proofs.files.width.Tie as tie
@@ -16,6 +16,9 @@ enum-told-3 c = search needs
 enum-told-4 : tie.Need-enum-told-4
 enum-told-4 c = search needs
 
+enum-told-5 : tie.Need-enum-told-5
+enum-told-5 c = search needs
+
 returns : tie.Need-returns
 unfolding width constraintColumns
 returns c = rw (c .enum-told .given .1)
@@ -29,8 +32,12 @@ unfolding width schedulesColumns
 returns-3 c = rw (c .enum-told3 .given .1)
 
 returns-4 : tie.Need-returns-4
-unfolding width parentsColumns
+unfolding width curvesColumns
 returns-4 c = rw (c .enum-told4 .given .1)
 
+returns-5 : tie.Need-returns-5
+unfolding width parentsColumns
+returns-5 c = rw (c .enum-told5 .given .1)
+
 pub width-spec : {M : Type 1} → statement M
-width-spec = tie.close (tie.spec enum-told enum-told-2 enum-told-3 enum-told-4 returns returns-2 returns-3 returns-4)
+width-spec = tie.close (tie.spec enum-told enum-told-2 enum-told-3 enum-told-4 enum-told-5 returns returns-2 returns-3 returns-4 returns-5)

@@ -1,6 +1,6 @@
 -- Each file's header. Assumes nothing.
-use Rattle.tables.specs.Table.{header, joined, headerText, constraintColumns, supplyColumns, schedulesColumns, parentsColumns}
-use Rattle.tables.specs.declared.files.File.the-variants.{Constraint, Supply, Schedules, Parents}
+use Rattle.tables.specs.Table.{header, joined, headerText, constraintColumns, supplyColumns, schedulesColumns, curvesColumns, parentsColumns}
+use Rattle.tables.specs.declared.files.File.the-variants.{Constraint, Supply, Schedules, Curves, Parents}
 use Rattle.tables.proofs.HeaderLaws.{header-read}
 use mathlib.Core.Path.{refl}
 use borrow.Author.Needs.{needs}
@@ -55,6 +55,18 @@ width-requires-4 c κs = search needs
 compare-fields-requires-4 : tie.Need-compare-fields-requires-4
 compare-fields-requires-4 c κs = search needs
 
+enum-told-5 : tie.Need-enum-told-5
+enum-told-5 c = search needs
+
+slice-aggregate-compare-fields-5 : tie.Need-slice-aggregate-compare-fields-5
+slice-aggregate-compare-fields-5 c = search needs
+
+width-requires-5 : tie.Need-width-requires-5
+width-requires-5 c κs = search needs
+
+compare-fields-requires-5 : tie.Need-compare-fields-requires-5
+compare-fields-requires-5 c κs = search needs
+
 returns : tie.Need-returns
 unfolding headerText joined header constraintColumns
 returns c =
@@ -74,10 +86,16 @@ returns-3 c =
     rw is (header-read Schedules (rw is at (c .before .width3 .ensures)) refl (c .compare-fields3 .ensures))
 
 returns-4 : tie.Need-returns-4
-unfolding headerText joined header parentsColumns
+unfolding headerText joined header curvesColumns
 returns-4 c =
     let is = c .before .before .before .enum-told4 .given .1 in
-    rw is (header-read Parents (rw is at (c .before .width4 .ensures)) refl (c .compare-fields4 .ensures))
+    rw is (header-read Curves (rw is at (c .before .width4 .ensures)) refl (c .compare-fields4 .ensures))
+
+returns-5 : tie.Need-returns-5
+unfolding headerText joined header parentsColumns
+returns-5 c =
+    let is = c .before .before .before .enum-told5 .given .1 in
+    rw is (header-read Parents (rw is at (c .before .width5 .ensures)) refl (c .compare-fields5 .ensures))
 
 pub read-header-spec : {M : Type 1} → statement M
 read-header-spec =
@@ -99,7 +117,12 @@ read-header-spec =
     slice-aggregate-compare-fields-4
     width-requires-4
     compare-fields-requires-4
+    enum-told-5
+    slice-aggregate-compare-fields-5
+    width-requires-5
+    compare-fields-requires-5
     returns
     returns-2
     returns-3
-    returns-4)
+    returns-4
+    returns-5)

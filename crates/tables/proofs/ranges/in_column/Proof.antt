@@ -1,5 +1,5 @@
 -- A number by its column's minimum and maximum. Assumes nothing.
-use Rattle.tables.specs.Table.{constraintColumns, supplyColumns, schedulesColumns, parentsColumns}
+use Rattle.tables.specs.Table.{constraintColumns, supplyColumns, schedulesColumns, curvesColumns, parentsColumns}
 use Rattle.tables.specs.promises.Columns.{allColumns}
 use Rattle.tables.proofs.ColumnLaws.{below-column, from-minimum}
 use borrow.Author.Needs.{needs}
@@ -13,7 +13,7 @@ array-read-if1 : tie.Need-array-read-if1
 array-read-if1 c = search needs
 
 returns : tie.Need-returns
-unfolding allColumns constraintColumns supplyColumns schedulesColumns parentsColumns
+unfolding allColumns constraintColumns supplyColumns schedulesColumns curvesColumns parentsColumns
 returns c = below-column (c .before .args .column) _ (c .if1 .taken)
 
 mul-result : tie.Need-mul-result
@@ -23,7 +23,7 @@ array-read-result : tie.Need-array-read-result
 array-read-result c = search needs
 
 returns-2 : tie.Need-returns-2
-unfolding allColumns constraintColumns supplyColumns schedulesColumns parentsColumns
+unfolding allColumns constraintColumns supplyColumns schedulesColumns curvesColumns parentsColumns
 returns-2 c = from-minimum (c .before .args .column) _ (c .if1 .left)
 
 pub in-column-spec : {M : Type 1} → statement M

@@ -2,19 +2,20 @@
 use Prim.Native.Nat.{ℕ, _≤_}
 use native.Mathlib.Omega.{arith}
 use Rattle.tables.specs.promises.Laying.{room}
-use Rattle.tables.specs.Table.{width, constraintColumns, supplyColumns, schedulesColumns, parentsColumns}
+use Rattle.tables.specs.Table.{width, constraintColumns, supplyColumns, schedulesColumns, curvesColumns, parentsColumns}
 use Rattle.tables.specs.declared.files.File.{File}
-use Rattle.tables.specs.declared.files.File.the-variants.{Constraint, Supply, Schedules, Parents}
+use Rattle.tables.specs.declared.files.File.the-variants.{Constraint, Supply, Schedules, Curves, Parents}
 use borrow.Author.Needs.{needs}
 use Rattle.test_onepass.proofs.report.case.Statement.{statement}
 use Rattle.test_onepass.proofs.report.case.Tie as tie
 
 -- a run that has room for the longest file has room for each
-room-enough : (f : File) (n : ℕ) → 9216 ≤ n → room f ≤ n
-unfolding room width constraintColumns supplyColumns schedulesColumns parentsColumns
+room-enough : (f : File) (n : ℕ) → 20480 ≤ n → room f ≤ n
+unfolding room width constraintColumns supplyColumns schedulesColumns curvesColumns parentsColumns
 room-enough Constraint n l = omega arith
 room-enough Supply n l = omega arith
 room-enough Schedules n l = omega arith
+room-enough Curves n l = omega arith
 room-enough Parents n l = omega arith
 
 slice-aggregate-read : tie.Need-slice-aggregate-read

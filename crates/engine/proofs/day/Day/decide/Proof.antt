@@ -9,7 +9,7 @@ is-formed-requires : tie.Need-is-formed-requires
 is-formed-requires c κs = search needs
 
 decide-files-requires : tie.Need-decide-files-requires
-decide-files-requires c κs = (sym (c .before .before .is-formed .ensures) ∙ c .before .if1 .taken, c .before .before .before .before .before .before .before .before .pre)
+decide-files-requires c κs = (sym (c .before .before .is-formed .ensures) ∙ c .before .if1 .taken, c .before .before .before .before .before .before .before .before .before .pre)
 
 refused-by-state-requires : tie.Need-refused-by-state-requires
 refused-by-state-requires c κs = search needs

@@ -32,16 +32,16 @@ slice-aggregate-decide-groups-2 : tie.Need-slice-aggregate-decide-groups-2
 slice-aggregate-decide-groups-2 c = search needs
 
 decide-groups-requires : tie.Need-decide-groups-requires
-decide-groups-requires c κs = let pre = c .before .before .before .before .before .before .before .before .before .before .before .before .before .before .before .before .pre in let market = c .before .before .before .before .before .before .before .before .check-market .ensures in let told = c .before .before .before .before .check2 .given .1 in (formed-units _ (pre .0), (market-cells _ _ _ _ market _ told (omega arith), (market-units _ _ _ _ market _ told (omega arith), pre .1)))
+decide-groups-requires c κs = let pre = c .before .before .before .before .before .before .before .before .before .before .before .before .before .before .before .before .before .pre in let market = c .before .before .before .before .before .before .before .before .check-market .ensures in let told = c .before .before .before .before .check2 .given .1 in (formed-units _ (pre .0), (market-cells _ _ _ _ market _ told (omega arith), (market-units _ _ _ _ market _ told (omega arith), pre .1)))
 
 returns : tie.Need-returns
-returns c = market-refused _ _ _ _ (c .before .before .before .before .before .before .before .before .before .before .before .before .before .pre .0) _ (market.market-refused _ _ _ _ (c .before .before .before .before .before .check-market .ensures) _ _ (c .before .check .given .1)) refl
+returns c = market-refused _ _ _ _ (c .before .before .before .before .before .before .before .before .before .before .before .before .before .before .pre .0) _ (market.market-refused _ _ _ _ (c .before .before .before .before .before .check-market .ensures) _ _ _ (c .before .check .given .1)) refl
 
 same-length : tie.Need-same-length
 same-length c = search needs
 
 returns-2 : tie.Need-returns-2
-returns-2 c = let market = c .before .before .before .before .before .before .before .before .before .before .before .before .check-market .ensures in let told = c .before .before .before .before .before .before .before .before .check2 .given .1 in market-decided _ _ _ _ (c .before .before .before .before .before .before .before .before .before .before .before .before .before .before .before .before .before .before .before .before .pre .0) (market-none _ _ _ _ market _ told) _ (market-constraint _ _ _ _ market _ told) _ (market-rows _ _ _ _ market _ told) (c .before .before .before .decide-groups .ensures)
+returns-2 c = let market = c .before .before .before .before .before .before .before .before .before .before .before .before .check-market .ensures in let told = c .before .before .before .before .before .before .before .before .check2 .given .1 in market-decided _ _ _ _ (c .before .before .before .before .before .before .before .before .before .before .before .before .before .before .before .before .before .before .before .before .before .pre .0) (market-none _ _ _ _ market _ told) _ (market-constraint _ _ _ _ market _ told) _ (market-rows _ _ _ _ market _ told) (c .before .before .before .decide-groups .ensures)
 
 pub decide-files-spec : {M : Type 1} → statement M
 decide-files-spec =

@@ -29,8 +29,8 @@ slice-aggregate-answer-rows c = search needs
 answer-rows-requires : tie.Need-answer-rows-requires
 unfolding viewOf
 answer-rows-requires c κs = let laid = c .before .before .before .before .before .before .decide .ensures .decides _ _ (c .before .before .before .deciding2 .given .1) in
-    let args = c .before .before .before .before .before .before .before .before .before .before .before .before .before .args in
-    let formed = day-formed (viewOf (args .self)) (files (args .constraint .now) (args .supply .now) (args .schedules .now) (args .parents .now)) (laid .accepted) in
+    let args = c .before .before .before .before .before .before .before .before .before .before .before .before .before .before .args in
+    let formed = day-formed (viewOf (args .self)) (files (args .constraint .now) (args .supply .now) (args .schedules .now) (args .curves .now) (args .parents .now)) (laid .accepted) in
     (formed-units (args .self) formed, laid .ready)
 
 returns : tie.Need-returns

@@ -3,7 +3,7 @@ use mathlib.Core.Path.{_≡_, refl, sym, _∙_, ap}
 use mathlib.Core.Logic.{⊎-elim}
 use mathlib.Core.Bool.{Bool, true, false, cond}
 use mathlib.Core.List.{List, [], _∷_, map, List·Memᴰ, List·Memᴰ·head, List·Memᴰ·tail, List·Memᴰ·cases-cons}
-use Rattle.base.specs.Search.{any, those, All, all-none, all-more}
+use Rattle.base.specs.Search.{any, find, those, All, all-none, all-more}
 use Rattle.base.proofs.Finds.{any-later, those-here, those-later}
 use Rattle.base.proofs.Tests.{either, or-fst, or-snd, false-true}
 
@@ -107,3 +107,22 @@ pub any-same : {A : Type 0} (p q : A → Bool) (xs : List A) → ((x : A) → p 
 unfolding any
 any-same p q [] f = refl
 any-same p q (x ∷ xs) f = rw (f x, any-same p q xs f)
+
+pub find-same : {A : Type 0} (p q : A → Bool) (xs : List A) → ((x : A) → p x ≡ q x) → find p xs ≡ find q xs
+unfolding find
+find-same p q [] f = refl
+find-same p q (x ∷ xs) f = rw (f x, find-same p q xs f)
+
+-- those that pass a test are found among those that pass a weaker one
+pub those-within : {A : Type 0} (p q : A → Bool) → ((x : A) → q x ≡ true → p x ≡ true) → (xs : List A) → those q (those p xs) ≡ those q xs
+unfolding those
+those-within p q weaker [] = refl
+those-within p q weaker (x ∷ xs) = go (p x) (q x) refl refl (those-within p q weaker xs)
+  where
+    go :
+        (s t : Bool) → p x ≡ s → q x ≡ t → those q (those p xs) ≡ those q xs →
+        those q (cond s (x ∷ those p xs) (those p xs)) ≡ cond t (x ∷ those q xs) (those q xs)
+    go true true e f below = those-here q x (those p xs) f ∙ rw below
+    go true false e f below = those-later q x (those p xs) f ∙ below
+    go false true e f below = false-true (sym e ∙ weaker x f)
+    go false false e f below = below

@@ -3,7 +3,9 @@ pub mod Elements
 pub mod Finds
 pub mod FirstLaws
 pub mod Lists
+pub mod Mapped
 pub mod Members
+pub mod Places
 pub mod RisingLaws
 pub mod SearchLaws
 pub mod Searches

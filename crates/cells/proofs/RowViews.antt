@@ -1,12 +1,13 @@
 -- Laws of rows out of a flat run of cells: the row at a place, and its cells by their places in the run. Assumes nothing.
 use Prim.Native.Nat.{ℕ, zero, suc, _+_, _*_, _<_}
 use mathlib.Core.Path.{_≡_, refl, _∙_, ap}
-use mathlib.Core.List.{List, [], _∷_, map}
+use mathlib.Core.List.{List, [], _∷_}
 use native.Mathlib.Omega.{arith}
 use native.Mathlib.Nat.{suc-mul, zero-mul, le-of-suc-le-suc, not-suc-le-zero}
 use native.Mathlib.Numerals.{add-one}
 use lib.ListN.{length, getD, take, drop, length-map}
 use lib.Seq.{drop-drop, getD-drop, getD-take}
+use Rattle.base.proofs.Lists.{drop-map}
 use Rattle.tables.specs.Rows.{supplyRow, scheduleRow, pointRow, parentRow}
 use Rattle.tables.specs.promises.FlatRows.{rowsOf, supplyRows, scheduleRows, pointRows, parentRows}
 use Rattle.cells.specs.promises.Views.{supplyAt, scheduleAt, pointAt, parentAt, answerAt, answerRow, answerRows}
@@ -31,11 +32,6 @@ module _ (w : ℕ) where
   pub cell-at : (cs : List ℕ) (i j : ℕ) → j < w → getD (take w (drop (i * w) cs)) j 0 ≡ getD cs (i * w + j) 0
   cell-at cs i j h = getD-take w (drop (i * w) cs) j 0 h ∙ getD-drop (i * w) cs j 0
 
-map-drop : {A B : Type 0} (f : A → B) (i : ℕ) (l : List A) → drop i (map f l) ≡ map f (drop i l)
-map-drop f zero l = refl
-map-drop f (suc i) [] = refl
-map-drop f (suc i) (x ∷ xs) = map-drop f i xs
-
 -- the rows of supply
 supply-cells : (cs : List ℕ) (i : ℕ) → supplyRow (take 5 (drop (i * 5) cs)) ≡ supplyAt cs i
 supply-cells cs i =
@@ -51,7 +47,7 @@ pub supply-next :
     (n : ℕ) (cs : List ℕ) (i : ℕ) → i < n → drop i (supplyRows n cs) ≡ supplyAt cs i ∷ drop (i + 1) (supplyRows n cs)
 unfolding supplyRows
 supply-next n cs i h =
-    rw (add-one i, map-drop supplyRow i (rowsOf 5 n cs), row-at 5 n cs i h, map-drop supplyRow (suc i) (rowsOf 5 n cs), supply-cells cs i)
+    rw (add-one i, drop-map supplyRow i (rowsOf 5 n cs), row-at 5 n cs i h, drop-map supplyRow (suc i) (rowsOf 5 n cs), supply-cells cs i)
 
 pub supply-length : (n : ℕ) (cs : List ℕ) → length (supplyRows n cs) ≡ n
 unfolding supplyRows
@@ -78,9 +74,9 @@ unfolding scheduleRows
 schedule-next n cs i h =
     rw (
       add-one i,
-      map-drop scheduleRow i (rowsOf 9 n cs),
+      drop-map scheduleRow i (rowsOf 9 n cs),
       row-at 9 n cs i h,
-      map-drop scheduleRow (suc i) (rowsOf 9 n cs),
+      drop-map scheduleRow (suc i) (rowsOf 9 n cs),
       schedule-cells cs i,
     )
 
@@ -103,7 +99,7 @@ pub point-next :
     (n : ℕ) (cs : List ℕ) (i : ℕ) → i < n → drop i (pointRows n cs) ≡ pointAt cs i ∷ drop (i + 1) (pointRows n cs)
 unfolding pointRows
 point-next n cs i h =
-    rw (add-one i, map-drop pointRow i (rowsOf 5 n cs), row-at 5 n cs i h, map-drop pointRow (suc i) (rowsOf 5 n cs), point-cells cs i)
+    rw (add-one i, drop-map pointRow i (rowsOf 5 n cs), row-at 5 n cs i h, drop-map pointRow (suc i) (rowsOf 5 n cs), point-cells cs i)
 
 pub point-length : (n : ℕ) (cs : List ℕ) → length (pointRows n cs) ≡ n
 unfolding pointRows
@@ -117,7 +113,7 @@ pub parent-next :
     (n : ℕ) (cs : List ℕ) (i : ℕ) → i < n → drop i (parentRows n cs) ≡ parentAt cs i ∷ drop (i + 1) (parentRows n cs)
 unfolding parentRows
 parent-next n cs i h =
-    rw (add-one i, map-drop parentRow i (rowsOf 2 n cs), row-at 2 n cs i h, map-drop parentRow (suc i) (rowsOf 2 n cs), parent-cells cs i)
+    rw (add-one i, drop-map parentRow i (rowsOf 2 n cs), row-at 2 n cs i h, drop-map parentRow (suc i) (rowsOf 2 n cs), parent-cells cs i)
 
 pub parent-length : (n : ℕ) (cs : List ℕ) → length (parentRows n cs) ≡ n
 unfolding parentRows
@@ -142,9 +138,9 @@ unfolding answerRows
 answer-next n cs i h =
     rw (
       add-one i,
-      map-drop answerRow i (rowsOf 7 n cs),
+      drop-map answerRow i (rowsOf 7 n cs),
       row-at 7 n cs i h,
-      map-drop answerRow (suc i) (rowsOf 7 n cs),
+      drop-map answerRow (suc i) (rowsOf 7 n cs),
       answer-cells cs i,
     )
 

@@ -22,7 +22,7 @@ use Rattle.links.specs.promises.Links.{mostLinked, RowsLinked}
 use Rattle.supply.specs.Supply.{units, overLimit, supplyAtOdds}
 use Rattle.supply.specs.promises.Rows.{Counted}
 use Rattle.supply.specs.declared.rows.Counts.{Counts}
-use Rattle.supply.proofs.UnitLaws.{over-limit-none, supply-at-odds-none, place-is}
+use Rattle.supply.proofs.UnitLaws.{over-limit-none, supply-at-odds-none}
 use Rattle.schedules.specs.Schedules.{schedulesAtOdds}
 use Rattle.schedules.specs.declared.rows.Lowest.{Lowest}
 use Rattle.schedules.proofs.PlaceLaws.{schedules-at-odds-none}
@@ -33,6 +33,7 @@ use Rattle.checking.specs.declared.constraint_file.ConstraintCheck.the-v
 use Rattle.checking.specs.declared.supply_file.SupplyCheck.the-variants.{Rows as SupplyRowsRead, Refused as SupplyRefused}
 use Rattle.checking.proofs.FilesLaws.{was-read, was-refused, supply-count, schedules-count, supply-rows, schedule-rows, constraint-row}
 use Rattle.base.proofs.FirstLaws.{first-of-one, first-of-here, first-of-later}
+use Rattle.base.proofs.Places.{place-is}
 use Rattle.checking.proofs.KeptLaws.{schedules-kept}
 use Rattle.checking.proofs.Rooms.{supply-room, schedules-room}
 use Rattle.checking.proofs.RuleLaws.{some-none, record-at}

@@ -7,6 +7,7 @@ use native.Mathlib.Omega.{arith}
 use lib.ListN.{length}
 use Rattle.base.specs.Search.{firstOf}
 use Rattle.base.proofs.FirstLaws.{first-of-one, first-of-here, first-of-later}
+use Rattle.base.proofs.Places.{place-is, first-none-at}
 use Rattle.tables.specs.promises.Laying.{FileRead, room}
 use Rattle.tables.specs.Reading.{refusal}
 use Rattle.tables.specs.Rows.{ScheduleRow, PointRow}
@@ -26,7 +27,6 @@ use Rattle.curves.proofs.Computing.{curves·all}
 use Rattle.curves.proofs.EndLaws.{ends-low-none}
 use Rattle.curves.proofs.OrderLaws.{disordered-none}
 use Rattle.curves.proofs.PricedLaws.{no-points, rows-priced, priced-linked}
-use Rattle.supply.proofs.UnitLaws.{place-is, first-none-at}
 use Rattle.checking.specs.Files.{orHeader, curvesOf, pointRefusals, aloneRefusals, curvesRefusals}
 use Rattle.checking.specs.promises.Curves.{Prices, RowsPricedBy, CurvesChecked, curveRefusals, CurvesHeld}
 use Rattle.checking.proofs.FilesLaws.{was-read, was-refused, curves-count, point-rows}

@@ -8,6 +8,7 @@ use lib.ListN.{length}
 use Rattle.base.specs.Search.{firstOf}
 use Rattle.base.proofs.Elements.{all-mem}
 use Rattle.base.proofs.FirstLaws.{first-of-one, first-of-here, first-of-later}
+use Rattle.base.proofs.Places.{place-is, at-odds-none, first-none-at}
 use Rattle.tables.specs.promises.Laying.{FileRead, room}
 use Rattle.tables.specs.Reading.{refusal}
 use Rattle.tables.specs.Rows.{SupplyRow, ParentRow}
@@ -25,7 +26,6 @@ use Rattle.affiliates.specs.promises.Laying.{ParentCells, ParentsIn, ParentsLai
 use Rattle.affiliates.proofs.GroupLaws.{no-parents}
 use Rattle.affiliates.proofs.GroupingLaws.{headed-grouped}
 use Rattle.affiliates.proofs.Computing.{affiliates·all}
-use Rattle.supply.proofs.UnitLaws.{place-is, at-odds-none, first-none-at}
 use Rattle.checking.specs.Files.{orHeader, parentsOf, affiliateRefusals, aloneRefusals}
 use Rattle.checking.specs.promises.Parents.{Groups, RowsGrouped, ParentsChecked}
 use Rattle.checking.proofs.FilesLaws.{was-read, was-refused, parents-count, parent-rows}

@@ -15,7 +15,6 @@ use Rattle.tables.specs.declared.files.Reading.{Reading}
 use Rattle.tables.specs.declared.files.Reading.the-variants.{Rows as RowsRead, Refused as NotRead}
 use Rattle.tables.specs.declared.files.Refusal.{Refusal}
 use Rattle.tables.specs.Refusals.{refused}
-use Rattle.supply.proofs.UnitLaws.{place-is}
 use Rattle.schedules.specs.promises.Answers.{lowestOf}
 use Rattle.schedules.specs.Schedules.{notInSupply, unscheduled}
 use Rattle.schedules.specs.declared.rows.Lowest.{Lowest}
@@ -25,6 +24,7 @@ use Rattle.checking.specs.promises.Alone.{rowsUnless}
 use Rattle.checking.specs.Files.{unitsRefusals}
 use Rattle.checking.specs.promises.Rules.{faultIn, recordAt, pricedRefusals, heldRefusals}
 use Rattle.base.proofs.FirstLaws.{first-of-one, first-of-here, first-of-later}
+use Rattle.base.proofs.Places.{place-is}
 
 pub some-none : {A : Type 0} {x : Refusal} → some x ≡ none → A
 some-none e = let z : _≡_ {A = ℕ} 0 1 = cc in absurd (omega arith)

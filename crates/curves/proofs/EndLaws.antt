@@ -2,9 +2,9 @@
 use Prim.Native.Nat.{ℕ, zero, suc, _+_, _-_, _≤_, _<_}
 use mathlib.Core.Path.{_≡_, refl, sym, _∙_}
 use mathlib.Core.Logic.{⊎-elim}
-use mathlib.Core.Bool.{Bool, true, false, cond, not, _&&_}
+use mathlib.Core.Bool.{Bool, true, false, not, _&&_}
 use mathlib.Core.List.{List, [], _∷_}
-use mathlib.Core.Option.{Option, none, some, Option·getD}
+use mathlib.Core.Option.{none, Option·getD}
 use native.Mathlib.Omega.{arith}
 use native.Mathlib.Numerals.{add-one}
 use lib.Dec.{eqb, ltb}
@@ -12,6 +12,7 @@ use lib.ListN.{getD, drop}
 use borrow.Author.Tests.{eq-eqb, ne-eqb, lt-ltb, le-ltb}
 use Rattle.base.specs.Search.{any}
 use Rattle.base.proofs.Lists.{drop-end}
+use Rattle.base.proofs.Places.{no-place}
 use Rattle.base.proofs.SearchLaws.{same-test}
 use Rattle.base.proofs.Tests.{eq-or-ne, lt-or-ge, and-fst, and-snd}
 use Rattle.tables.specs.Rows.{ScheduleRow, PointRow}
@@ -165,11 +166,5 @@ module _ (m : ℕ) (points places lasts : List ℕ) (n : ℕ) (cells : List ℕ)
 pub ends-low-none : (rs : List ScheduleRow) (k : ℕ) (vs : List PointRow) → Option·getD (endsLowFrom rs (suc k) vs) 0 ≡ 0 → endsLowFrom rs (suc k) vs ≡ none
 unfolding endsLowFrom
 ends-low-none rs k [] e = refl
-ends-low-none rs k (v ∷ vs) e = go (not (any (sameCurve v) vs) && belowEcomin rs v) e (ends-low-none rs (suc k) vs)
-  where
-    more : Option ℕ
-    more = endsLowFrom rs (suc (suc k)) vs
-
-    go : (t : Bool) → Option·getD (cond t (some (suc k)) more) 0 ≡ 0 → (Option·getD more 0 ≡ 0 → more ≡ none) → cond t (some (suc k)) more ≡ none
-    go true e below = absurd (omega arith)
-    go false e below = below e
+ends-low-none rs k (v ∷ vs) e =
+    no-place (not (any (sameCurve v) vs) && belowEcomin rs v) k (endsLowFrom rs (suc (suc k)) vs) (ends-low-none rs (suc k) vs) e

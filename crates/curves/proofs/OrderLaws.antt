@@ -4,7 +4,7 @@ use mathlib.Core.Path.{_≡_, refl, sym, _∙_}
 use mathlib.Core.Logic.{⊎-elim}
 use mathlib.Core.Bool.{Bool, true, false, cond}
 use mathlib.Core.List.{List, [], _∷_}
-use mathlib.Core.Option.{Option, none, some, Option·getD}
+use mathlib.Core.Option.{none, some, Option·getD}
 use native.Mathlib.Omega.{arith}
 use native.Mathlib.Numerals.{add-one}
 use lib.Dec.{eqb}
@@ -13,6 +13,7 @@ use lib.Seq.{getD-set-same, getD-set-other}
 use borrow.Author.Tests.{eq-eqb, ne-eqb}
 use Rattle.base.specs.Search.{those}
 use Rattle.base.proofs.Lists.{drop-end}
+use Rattle.base.proofs.Places.{no-place}
 use Rattle.base.proofs.SearchLaws.{some-none}
 use Rattle.base.proofs.Tests.{eq-or-ne}
 use Rattle.tables.specs.Rows.{PointRow}
@@ -126,7 +127,7 @@ module _ (m : ℕ) (points places lasts₀ counts₀ : List ℕ) where
       (lasts counts : List ℕ) (i : ℕ) (l : Ordering m points places lasts₀ counts₀ lasts counts i) (h : i < m)
       (place : ℕ) (at-place : place ≡ getD places i 0)
     where
-      pub place-inside : place ≤ mostLinked
+      place-inside : place ≤ mostLinked
       place-inside = omega (arith, l .curves .upto i h)
 
       pub last-inside : (last : ℕ) → last ≡ getD lasts place 0 → last ≤ i
@@ -218,11 +219,5 @@ module _ (m : ℕ) (points places lasts₀ counts₀ : List ℕ) where
 pub disordered-none : (seen : List PointRow) (k : ℕ) (vs : List PointRow) → Option·getD (disorderedFrom seen (suc k) vs) 0 ≡ 0 → disorderedFrom seen (suc k) vs ≡ none
 unfolding disorderedFrom
 disordered-none seen k [] e = refl
-disordered-none seen k (v ∷ vs) e = go (breaksOrder v (those (sameCurve v) seen)) e (disordered-none (v ∷ seen) (suc k) vs)
-  where
-    more : Option ℕ
-    more = disorderedFrom (v ∷ seen) (suc (suc k)) vs
-
-    go : (t : Bool) → Option·getD (cond t (some (suc k)) more) 0 ≡ 0 → (Option·getD more 0 ≡ 0 → more ≡ none) → cond t (some (suc k)) more ≡ none
-    go true e below = absurd (omega arith)
-    go false e below = below e
+disordered-none seen k (v ∷ vs) e =
+    no-place (breaksOrder v (those (sameCurve v) seen)) k (disorderedFrom (v ∷ seen) (suc (suc k)) vs) (disordered-none (v ∷ seen) (suc k) vs) e

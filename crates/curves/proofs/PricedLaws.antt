@@ -10,11 +10,10 @@ use lib.Dec.{eqb, leb}
 use lib.ListN.{length, drop, length-map}
 use borrow.Author.Tests.{eq-eqb, eqb-true}
 use Rattle.base.specs.Rising.{among}
-use Rattle.base.specs.Search.{first, any, find, those, firstAtOdds, All, all-none, all-more}
-use Rattle.base.proofs.Elements.{all-those}
-use Rattle.base.proofs.Finds.{those-here, those-later}
+use Rattle.base.specs.Search.{any, find, those, firstAtOdds, All, all-none, all-more}
+use Rattle.base.proofs.Elements.{all-those, find-same, those-within}
 use Rattle.base.proofs.Lists.{drop-end}
-use Rattle.base.proofs.Tests.{false-true}
+use Rattle.base.proofs.Mapped.{any-made, first-made, those-made}
 use Rattle.hours.specs.Hours.{runEnd}
 use Rattle.tables.specs.Rows.{ScheduleRow, PointRow}
 use Rattle.tables.specs.Table.{highestCost}
@@ -36,32 +35,6 @@ pub no-points : (rs : List ScheduleRow) → priced [] rs ≡ rs
 unfolding priced pricedRow priceAt withPrice those find
 no-points [] = refl
 no-points (r ∷ rs) = ap (λ (l : List ScheduleRow). r ∷ l) (no-points rs)
-
--- searches of what a function makes of a list, by a test that doesn't see the difference
-module _ {A : Type 0} (f : A → A) (p : A → Bool) (unseen : (x : A) → p (f x) ≡ p x) where
-  any-made : (xs : List A) → any p (map f xs) ≡ any p xs
-  unfolding any
-  any-made [] = refl
-  any-made (x ∷ xs) = rw (unseen x, any-made xs)
-
-  first-made : (k : ℕ) (xs : List A) → first p k (map f xs) ≡ first p k xs
-  unfolding first
-  first-made k [] = refl
-  first-made k (x ∷ xs) = rw (unseen x, first-made (suc k) xs)
-
-  those-made : (xs : List A) → those p (map f xs) ≡ map f (those p xs)
-  unfolding those
-  those-made [] = refl
-  those-made (x ∷ xs) = rw (unseen x, those-made xs) (go (p x))
-    where
-      go : (t : Bool) → cond t (f x ∷ map f (those p xs)) (map f (those p xs)) ≡ map f (cond t (x ∷ those p xs) (those p xs))
-      go true = refl
-      go false = refl
-
-find-same : {A : Type 0} (p q : A → Bool) (xs : List A) → ((x : A) → p x ≡ q x) → find p xs ≡ find q xs
-unfolding find
-find-same p q [] f = refl
-find-same p q (x ∷ xs) f = rw (f x, find-same p q xs f)
 
 module _ (vs : List PointRow) where
   -- 6
@@ -172,20 +145,6 @@ priced-permitted {rs = r ∷ rs} points (all-more p a) =
 -- the points of a unit
 abbrev pub ownPoints : ℕ → List PointRow → List PointRow
 ownPoints u vs = those (λ (v : PointRow). eqb (v .unit) u) vs
-
--- those that pass a test are found among those that pass a weaker one
-those-within : {A : Type 0} (p q : A → Bool) → ((x : A) → q x ≡ true → p x ≡ true) → (xs : List A) → those q (those p xs) ≡ those q xs
-unfolding those
-those-within p q weaker [] = refl
-those-within p q weaker (x ∷ xs) = go (p x) (q x) refl refl (those-within p q weaker xs)
-  where
-    go :
-        (s t : Bool) → p x ≡ s → q x ≡ t → those q (those p xs) ≡ those q xs →
-        those q (cond s (x ∷ those p xs) (those p xs)) ≡ cond t (x ∷ those q xs) (those q xs)
-    go true true e f below = those-here q x (those p xs) f ∙ rw below
-    go true false e f below = those-later q x (those p xs) f ∙ below
-    go false true e f below = false-true (sym e ∙ weaker x f)
-    go false false e f below = below
 
 row-by-own : (vs : List PointRow) (r : ScheduleRow) → pricedRow (ownPoints (r .unit) vs) r ≡ pricedRow vs r
 unfolding pricedRow

@@ -31,10 +31,6 @@ pointOf r v = sameHour (hourOfPoint v) (hourOfRow r)
 unfoldable pub sameCurve : PointRow → PointRow → Bool
 sameCurve v w = sameHour (hourOfPoint v) (hourOfPoint w)
 
--- 32: "a point whose schedule hour isn't in the schedules"
-unfoldable pub strayPoint : List ScheduleRow → List PointRow → Option ℕ
-strayPoint rs vs = first (λ (v : PointRow). not (any (λ (r : ScheduleRow). pointOf r v) rs)) 1 vs
-
 -- "at most ten points per schedule and hour"
 abbrev pub mostPoints : ℕ
 mostPoints = 10
@@ -44,6 +40,35 @@ mostPoints = 10
 unfoldable pub breaksOrder : PointRow → List PointRow → Bool
 breaksOrder v [] = false
 breaksOrder v (w ∷ ws) = not (ltb (w .mw) (v .mw) && ltb (w .price) (v .price)) || leb mostPoints (length (w ∷ ws))
+
+-- "The price at ecomin is that of the first point whose mw is at least ecomin."
+unfoldable pub priceAt : ℕ → List PointRow → Option ℕ
+priceAt ecomin vs = Option·map (λ (v : PointRow). v .price) (find (λ (v : PointRow). leb ecomin (v .mw)) vs)
+
+-- "A schedule hour with points uses it in place of its price column; one without uses the column."
+unfoldable pub withPrice : ScheduleRow → ℕ → ScheduleRow
+withPrice r price =
+    record {
+      unit = r .unit;
+      schedule = r .schedule;
+      kind = r .kind;
+      hour = r .hour;
+      ecomin = r .ecomin;
+      price = price;
+      noload = r .noload;
+      startup = r .startup;
+      minrun = r .minrun;
+    }
+
+unfoldable pub pricedRow : List PointRow → ScheduleRow → ScheduleRow
+pricedRow vs r = withPrice r (Option·getD (priceAt (r .ecomin) (those (pointOf r) vs)) (r .price))
+
+unfoldable pub priced : List PointRow → List ScheduleRow → List ScheduleRow
+priced vs rs = map (pricedRow vs) rs
+
+-- 32: "a point whose schedule hour isn't in the schedules"
+unfoldable pub strayPoint : List ScheduleRow → List PointRow → Option ℕ
+strayPoint rs vs = first (λ (v : PointRow). not (any (λ (r : ScheduleRow). pointOf r v) rs)) 1 vs
 
 -- 33: "an order or number of points outside these rules", the first record, where the list's first has the number k and `seen` came
 -- before it, the last first
@@ -70,28 +95,3 @@ endsLowFrom rs k (v ∷ vs) =
 
 unfoldable pub endsLow : List ScheduleRow → List PointRow → Option ℕ
 endsLow rs vs = endsLowFrom rs 1 vs
-
--- "The price at ecomin is that of the first point whose mw is at least ecomin."
-unfoldable pub priceAt : ℕ → List PointRow → Option ℕ
-priceAt ecomin vs = Option·map (λ (v : PointRow). v .price) (find (λ (v : PointRow). leb ecomin (v .mw)) vs)
-
--- "A schedule hour with points uses it in place of its price column; one without uses the column."
-unfoldable pub withPrice : ScheduleRow → ℕ → ScheduleRow
-withPrice r price =
-    record {
-      unit = r .unit;
-      schedule = r .schedule;
-      kind = r .kind;
-      hour = r .hour;
-      ecomin = r .ecomin;
-      price = price;
-      noload = r .noload;
-      startup = r .startup;
-      minrun = r .minrun;
-    }
-
-unfoldable pub pricedRow : List PointRow → ScheduleRow → ScheduleRow
-pricedRow vs r = withPrice r (Option·getD (priceAt (r .ecomin) (those (pointOf r) vs)) (r .price))
-
-unfoldable pub priced : List PointRow → List ScheduleRow → List ScheduleRow
-priced vs rs = map (pricedRow vs) rs

@@ -36,11 +36,10 @@ use Rattle.engine.specs.promises.Answering.{previewAs, lookedAt}
 -- of k rows, none of the first i is the unit's
 module _ (u k : ℕ) (cells : List ℕ) where
   pub record Seeking (i : ℕ) : Type 0 where
-    pub upto : i ≤ k
     pub passed : rowFor u (answerRows k cells) ≡ rowFor u (drop i (answerRows k cells))
 
   pub seeking-none : Seeking 0
-  seeking-none = record { upto = omega arith; passed = refl }
+  seeking-none = record { passed = refl }
 
   module _ (i : ℕ) (s : Seeking i) where
     module _ (here : i < k) where
@@ -52,7 +51,6 @@ module _ (u k : ℕ) (cells : List ℕ) where
       unfolding rowFor
       seeking-next n =
           record {
-            upto = omega arith;
             passed = s .passed ∙ rw (answer-next k cells i here) (find-later _ (answerAt cells i) _ (ne-eqb _ u n));
           }
 

@@ -5,8 +5,8 @@ use mathlib.Core.Bool.{not}
 use mathlib.Core.List.{List, []}
 use mathlib.Core.Option.{none, Option·getD}
 use Rattle.base.specs.Rising.{among}
+use Rattle.base.proofs.Places.{at-odds-none, first-none-at}
 use Rattle.tables.specs.Rows.{ScheduleRow}
-use Rattle.supply.proofs.UnitLaws.{at-odds-none, first-none-at}
 use Rattle.schedules.specs.Schedules.{scheduleOdds, schedulesAtOdds, notInSupply}
 
 pub schedules-at-odds-none : (rs : List ScheduleRow) → Option·getD (schedulesAtOdds rs) 0 ≡ 0 → schedulesAtOdds rs ≡ none

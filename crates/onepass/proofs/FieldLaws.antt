@@ -1,10 +1,11 @@
 -- Laws of a field at a place of a file: its digits one after the other, its cell by the form, its quotes. Assumes nothing.
-use Prim.Native.Nat.{ℕ, _+_, _-_, _≤_, _<_}
+use Prim.Native.Nat.{ℕ, suc, _+_, _-_, _*_, _%_, _^_, _≤_, _<_}
 use mathlib.Core.Path.{_≡_, refl, sym, _∙_, ap}
 use mathlib.Core.Bool.{Bool, true, false}
 use mathlib.Core.List.{List, [], _∷_, _++_}
 use mathlib.Core.Option.{Option, none, some}
 use native.Mathlib.Omega.{arith}
+use native.Mathlib.Nat.{pow-suc, pow-le-pow-right}
 use lib.Dec.{eqb}
 use lib.ListN.{length, getD, drop, length-append}
 use lib.Seq.{getD-drop}
@@ -20,7 +21,7 @@ use Rattle.numeral.proofs.Reading.{digits-read, number-from, none-some}
 use Rattle.numeral.specs.Grammar.{Digit, Digits}
 use Rattle.tables.specs.Table.{numeral, signed, letter}
 use Rattle.tables.specs.Values.{MINUS, inForm, excess, oneOf}
-use Rattle.onepass.specs.promises.Walk.{Run, RunFound, ZeroFound, TextFound, FieldFound, Closed, formOf}
+use Rattle.onepass.specs.promises.Walk.{Run, ZeroFound, TextFound, FieldFound, Closed, formOf}
 use Rattle.onepass.specs.declared.fields.Found.{Found}
 
 -- one more byte at the end of a text
@@ -38,32 +39,44 @@ pub record Running (s : List ℕ) (at i n : ℕ) : Type 0 where
   pub runs : NonEscaped (drop at s) text (drop i s)
   pub makes : Digits 0 text n
   pub counted : i ≡ at + length text
+  pub small : n < 10 ^ length text
 
 module _ (s : List ℕ) (at : ℕ) where
   pub running-none : Running s at at 0
-  running-none = record { text = []; runs = NonEscaped.none; makes = Digits.end; counted = omega arith }
+  running-none = record { text = []; runs = NonEscaped.none; makes = Digits.end; counted = omega arith; small = omega arith }
 
+  -- the byte at i is a digit, told by what it is above ZERO, wrapped
   pub running-next :
-      (i n b : ℕ) → Running s at i n → i < length s → b ≡ getD s i 0 → Digit b → Running s at (i + 1) (withDigit n b)
-  running-next i n b w h e d =
+      (i n d : ℕ) → Running s at i n → i < length s → (d + ZERO) % 2 ^ 8 ≡ getD s i 0 → d ≤ 9 → Running s at (i + 1) (10 * n + d)
+  running-next i n d w h e m =
       record {
         text = w .text ++ b ∷ [];
-        runs = text-more (rw (drop-next 0 i s h, ← e) at (w .runs)) (above-comma (omega arith) (omega arith));
-        makes = digits-more (w .makes) d;
+        runs = text-more (rw (drop-next 0 i s h) at (w .runs)) (above-comma (omega (arith, e)) (omega (arith, e)));
+        makes = rw made at (digits-more {b = b} (w .makes) (omega (arith, e)));
         counted = omega (arith, w .counted, longer);
+        small = rw (longer, pow-suc) (omega (arith, w .small));
       }
     where
-      longer : length (w .text ++ b ∷ []) ≡ length (w .text) + 1
-      longer = length-append (w .text) (b ∷ [])
+      b : ℕ
+      b = getD s i 0
 
-  pub running-over : (i n : ℕ) → Running s at i n → i ≤ length s → RunFound s at (record { good = true; next = i; cell = n })
-  running-over i n w h =
-      record {
-        found = λ z. record { text = w .text; runs = w .runs; makes = w .makes; counted = w .counted; inside = h };
-      }
+      made : withDigit n b ≡ 10 * n + d
+      made = omega (arith, e)
 
-  pub no-run : (r : Found) → r .good ≡ false → RunFound s at r
-  no-run r e = record { found = λ h. false-true (sym e ∙ h) }
+      longer : length (w .text ++ b ∷ []) ≡ suc (length (w .text))
+      longer = rw length-append (omega arith)
+
+  pub running-first : (d : ℕ) → at < length s → getD s at 0 ≡ d + ZERO → d ≤ 9 → Running s at (at + 1) d
+  running-first d h e m = rw one at (running-next at 0 d running-none h (omega (arith, e)) m)
+    where
+      one : 10 * 0 + d ≡ d
+      one = omega arith
+
+  pub running-small : (i n : ℕ) → Running s at i n → i ≤ at + 9 → n < 1000000000
+  running-small i n w h = omega (arith, w .small, pow-le-pow-right {n = 10} (omega arith) {i = length (w .text)} {j = 9} (omega (arith, w .counted)))
+
+  pub running-over : (i n : ℕ) → Running s at i n → i ≤ length s → Run s at (record { good = true; next = i; cell = n })
+  running-over i n w h = record { text = w .text; runs = w .runs; makes = w .makes; counted = w .counted; inside = h }
 
 module _ (read : List ℕ → Option ℕ) (s : List ℕ) (at : ℕ) where
   -- what was given up
@@ -73,8 +86,8 @@ module _ (read : List ℕ → Option ℕ) (s : List ℕ) (at : ℕ) where
 pub no-field : (read : List ℕ → Option ℕ) (s : List ℕ) (r : Found) → r .good ≡ false → FieldFound read s r
 no-field read s r e = record { found = λ h. false-true (sym e ∙ h) }
 
-pub no-zero : (at least : ℕ) (r : Found) → r .good ≡ false → r .cell ≡ 0 → ZeroFound at least r
-no-zero at least r e z = record { cell = z; found = λ h. false-true (sym e ∙ h) }
+pub no-zero : (s : List ℕ) (at least : ℕ) (r : Found) → r .good ≡ false → r .cell ≡ 0 → ZeroFound s at least r
+no-zero s at least r e z = record { cell = z; found = λ h. false-true (sym e ∙ h) }
 
 pub not-closed : (s : List ℕ) (t r : Found) → r .good ≡ false → Closed s t r
 not-closed s t r e = record { found = λ h. false-true (sym e ∙ h) }
@@ -105,37 +118,35 @@ head-at s at = getD-drop at s 0 0 ∙ ap (λ (k : ℕ). getD s k 0) whole
 
 module _ (s : List ℕ) (at : ℕ) where
   pub is-numeral :
-      (least most : ℕ) (r : Found) → RunFound s at r → at < r .next → (getD s at 0 ≡ ZERO → ⊥) → least ≤ r .cell →
+      (least most : ℕ) (r : Found) → Run s at r → at < r .next → (getD s at 0 ≡ ZERO → ⊥) → least ≤ r .cell →
       r .cell ≤ most → TextFound (inForm numeral least most) s at r
   unfolding inForm
-  is-numeral least most r w h z l m =
+  is-numeral least most r run h z l m =
       record {
-        found = λ p.
-            let run = w .found p in
+        found = λ _.
             record {
               text = run .text;
               runs = run .runs;
               means =
-                  rw (number-of (run .text) (r .cell) (run .makes) (some-digit run) (no-zero-leads run))
+                  rw (number-of (run .text) (r .cell) (run .makes) some-digit no-zero-leads)
                   (within-bounds least most (r .cell) l m);
               inside = run .inside;
             };
       }
     where
-      some-digit : (run : Run s at r) → 0 < length (run .text)
-      some-digit run = omega (arith, run .counted)
+      some-digit : 0 < length (run .text)
+      some-digit = omega (arith, run .counted)
 
-      no-zero-leads : (run : Run s at r) → getD (run .text) 0 0 ≡ ZERO → ⊥
-      no-zero-leads run e = z (sym (head-at s at) ∙ text-head (run .runs) (some-digit run) ∙ e)
+      no-zero-leads : getD (run .text) 0 0 ≡ ZERO → ⊥
+      no-zero-leads e = z (sym (head-at s at) ∙ text-head (run .runs) some-digit ∙ e)
 
   pub is-zero :
-      (least most : ℕ) (r : Found) → at < length s → getD s at 0 ≡ ZERO → ZeroFound at least r →
-      TextFound (inForm numeral least most) s at r
+      (least most : ℕ) (r : Found) → at < length s → ZeroFound s at least r → TextFound (inForm numeral least most) s at r
   unfolding inForm number leadingZero digitsFrom
-  is-zero least most r h e w =
+  is-zero least most r h w =
       record {
         found = λ p.
-            let (next, none-less) = w .found p in
+            let (e, next, none-less) = w .found p in
             record {
               text = ZERO ∷ [];
               runs =
@@ -171,11 +182,11 @@ second-letter a b x n e = simp (ne-eqb x a n, eq-eqb x b e) (ap some (sym e))
 module _ (s : List ℕ) (at minimum maximum : ℕ) where
   pub is-below :
       (r : Found) (x : ℕ) → at < length s → getD s at 0 ≡ MINUS → TextFound (inForm numeral 1 minimum) s (at + 1) r →
-      x ≡ minimum - r .cell → TextFound (inForm signed minimum maximum) s at (record { good = r .good; next = r .next; cell = x })
+      r .good ≡ true → x ≡ minimum - r .cell → TextFound (inForm signed minimum maximum) s at (record { good = true; next = r .next; cell = x })
   unfolding inForm excess
-  is-below r x h e w q =
+  is-below r x h e w p q =
       record {
-        found = λ p.
+        found = λ _.
             let t = w .found p in
             record {
               text = MINUS ∷ t .text;
@@ -196,11 +207,11 @@ module _ (s : List ℕ) (at minimum maximum : ℕ) where
 
   pub is-above :
       (r : Found) (x : ℕ) → (getD s at 0 ≡ MINUS → ⊥) → TextFound (inForm numeral 0 maximum) s at r →
-      x ≡ minimum + r .cell → TextFound (inForm signed minimum maximum) s at (record { good = r .good; next = r .next; cell = x })
+      r .good ≡ true → x ≡ minimum + r .cell → TextFound (inForm signed minimum maximum) s at (record { good = true; next = r .next; cell = x })
   unfolding inForm number within
-  is-above r x n w q =
+  is-above r x n w p q =
       record {
-        found = λ p.
+        found = λ _.
             let t = w .found p in
             record {
               text = t .text;

@@ -1,12 +1,12 @@
 // One field as a part of a file that begins where the field begins, read to its cell in one go.
 ghost use mathlib.Core.Path.{_≡_};
-ghost use Prim.Native.Nat.{_+_, _<_, _≤_, _^_};
+ghost use Prim.Native.Nat.{_+_, _<_, _≤_, _^_, min};
 ghost use mathlib.Core.Bool.{true, false};
 ghost use lib.Dec.{eqb};
-ghost use lib.ListN.{length};
+ghost use lib.ListN.{length, getD};
 ghost use Rattle.tables.specs.Table.{numeral as Form·numeral, signed as Form·signed, letter as Form·letter};
 ghost use Rattle.tables.specs.Values.{inForm};
-ghost use Rattle.onepass.specs.promises.Walk.{RunFound, ZeroFound, TextFound, FieldFound, Closed, formOf};
+ghost use Rattle.onepass.specs.promises.Walk.{Run, ZeroFound, TextFound, FieldFound, Closed, formOf};
 ghost use Rattle.base.specs.promises.Counting.{one};
 use tables::NUMERAL;
 use tables::SIGNED;
@@ -15,7 +15,12 @@ const BASE: u64 = 10;
 
 const ZERO: u8 = b'0';
 
-const NINE: u8 = b'9';
+const ONE: u8 = b'1';
+
+const LARGEST_DIGIT: u8 = 9;
+
+// The digits of the largest number that a column may have.
+const MOST_DIGITS: usize = 9;
 
 const MINUS: u8 = b'-';
 
@@ -117,23 +122,24 @@ fn text(form: u8, minimum: u64, maximum: u64, s: &[u8], at: usize) -> Found
     letter(s, at, minimum, maximum)
 }
 
-// A numeral from least to most. Digits behind a zero are left to the separator that is looked for.
+// A numeral from least to most. Digits behind a zero are left to the separator that is looked for. A byte less
+// ONE, wrapped, is below the largest digit just where it is a digit and no zero.
 fn numeral(s: &[u8], at: usize, least: u64, most: u64) -> Found
-    requires { ⌜ most < 2 ^ 60 ⌝ }
     ensures { λ r. ⌜ TextFound (inForm Form·numeral least most) (now (s .entry)) at r ⌝ }
-    ensures { λ r. ⌜ r .cell ≤ most ⌝ }
+    ensures { λ r. ⌜ (r .good ≡ true → r .cell ≤ most) ⌝ }
 {
     if s.len() <= at {
         return given_up(at);
     }
-    if s[at] == ZERO {
-        return zero(at, least);
+    let above_one = std::num::wrapping_sub_u8(s[at], ONE);
+    if LARGEST_DIGIT <= above_one {
+        return zero(s, at, least);
     }
-    let run = digits(s, at, most);
-    if run.next <= at {
+    let run = digits(s, at, above_one as u64 + 1);
+    if run.cell < least {
         return unfit(run);
     }
-    if run.cell < least {
+    if most < run.cell {
         return unfit(run);
     }
     run
@@ -150,12 +156,15 @@ fn unfit(found: Found) -> Found
 }
 
 // `0` at a place, where it is not below the least number.
-fn zero(at: usize, least: u64) -> Found
-    requires { ⌜ at < 2 ^ 63 ⌝ }
-    ensures { λ r. ⌜ ZeroFound at least r ⌝ }
+fn zero(s: &[u8], at: usize, least: u64) -> Found
+    requires { ⌜ at < length (now s) ⌝ }
+    ensures { λ r. ⌜ ZeroFound (now (s .entry)) at least r ⌝ }
 {
+    if s[at] != ZERO {
+        return given_up(at);
+    }
     if 0 < least {
-        return given_up(at + 1);
+        return given_up(at);
     }
     Found {
         good: true,
@@ -174,15 +183,21 @@ fn signed(s: &[u8], at: usize, minimum: u64, maximum: u64) -> Found
     }
     if s[at] == MINUS {
         let below = numeral(s, at + 1, 1, minimum);
+        if !below.good {
+            return given_up(at);
+        }
         return Found {
-            good: below.good,
+            good: true,
             next: below.next,
             cell: minimum - below.cell,
         };
     }
     let above = numeral(s, at, 0, maximum);
+    if !above.good {
+        return given_up(at);
+    }
     Found {
-        good: above.good,
+        good: true,
         next: above.next,
         cell: minimum + above.cell,
     }
@@ -220,40 +235,36 @@ fn letter(s: &[u8], at: usize, a: u64, b: u64) -> Found
     given_up(at)
 }
 
-// The digits from a place on, unless they make more than the most.
-fn digits(s: &[u8], at: usize, most: u64) -> Found
-    requires { ⌜ most < 2 ^ 60 ⌝ }
-    requires { ⌜ at ≤ length (now s) ⌝ }
-    ensures { λ r. ⌜ RunFound (now (s .entry)) at r ⌝ }
-    ensures { λ r. ⌜ r .cell ≤ most ⌝ }
+// The digits from a place on, of which the first is given; one that no column has room for is left to the
+// separator that is looked for. A byte less ZERO, wrapped, is at most the largest digit just where it is one.
+fn digits(s: &[u8], at: usize, first: u64) -> Found
+    requires { ⌜ at < length (now s) ⌝ }
+    requires { ⌜ getD (now s) at 0 ≡ first + 0x30 ⌝ }
+    requires { ⌜ first ≤ 9 ⌝ }
+    ensures { λ r. ⌜ Run (now (s .entry)) at r ⌝ }
+    ensures { λ r. ⌜ at < r .next ⌝ }
 {
-    let mut n: u64 = 0;
-    let mut i = at;
-    while i < s.len() {
-        let b = s[i];
-        if b < ZERO {
-            return Found {
-                good: true,
-                next: i,
-                cell: n,
-            };
+    let end = at + lesser(s.len() - at, MOST_DIGITS);
+    let mut n = first;
+    let mut i = at + 1;
+    while i < end {
+        let digit = std::num::wrapping_sub_u8(s[i], ZERO);
+        if digit <= LARGEST_DIGIT {
+            n = BASE * n + digit as u64;
+            i += 1;
+        } else {
+            break;
         }
-        if NINE < b {
-            return Found {
-                good: true,
-                next: i,
-                cell: n,
-            };
-        }
-        n = BASE * n + (b as u64 - ZERO as u64);
-        if most < n {
-            return given_up(i);
-        }
-        i += 1;
     }
     Found {
         good: true,
         next: i,
         cell: n,
     }
+}
+
+fn lesser(a: usize, b: usize) -> usize
+    ensures { λ r. ⌜ r ≡ min a b ⌝ }
+{
+    if a < b { a } else { b }
 }

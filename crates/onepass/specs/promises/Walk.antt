@@ -6,7 +6,7 @@ use mathlib.Core.Bool.{Bool, true, false, cond}
 use mathlib.Core.List.{List, [], _∷_, _++_}
 use mathlib.Core.Option.{Option, some}
 use lib.Dec.{eqb}
-use lib.ListN.{length, take, drop}
+use lib.ListN.{length, getD, take, drop}
 use Rattle.csv.specs.Grammar.{NonEscaped, Field, Record}
 use Rattle.csv.specs.Bytes.{COMMA, CR, DQUOTE, LF}
 use Rattle.csv.specs.promises.Rows.{Breaks, Rows}
@@ -27,13 +27,10 @@ pub record Run (s : List ℕ) (at : ℕ) (r : Found) : Type 0 where
   pub counted : r .next ≡ at + length text
   pub inside : r .next ≤ length s
 
-pub record RunFound (s : List ℕ) (at : ℕ) (r : Found) : Type 0 where
-  pub found : r .good ≡ true → Run s at r
-
 -- `0` at a place, where it is not below the least number
-pub record ZeroFound (at least : ℕ) (r : Found) : Type 0 where
+pub record ZeroFound (s : List ℕ) (at least : ℕ) (r : Found) : Type 0 where
   pub cell : r .cell ≡ 0
-  pub found : r .good ≡ true → (r .next ≡ at + 1) × (least ≡ 0)
+  pub found : r .good ≡ true → (getD s at 0 ≡ 0x30) × (r .next ≡ at + 1) × (least ≡ 0)
 
 -- a text of one cell from a place on
 pub record Texted (read : List ℕ → Option ℕ) (s : List ℕ) (at next cell : ℕ) : Type 0 where

@@ -1,63 +1,62 @@
 -- The digits, one a turn. Assumes nothing.
-use Prim.Native.Nat.{_-_, _≤_}
-use mathlib.Core.Path.{refl}
+use Prim.Native.Nat.{_+_, _-_, _≤_, _<_}
 use native.Mathlib.Omega.{arith}
 use borrow.Author.Needs.{needs}
 use lib.ListN.{length}
-use Rattle.onepass.proofs.FieldLaws.{Running, running-none, running-next, running-over, no-run}
+use Rattle.onepass.proofs.FieldLaws.{Running, running-first, running-next, running-small, running-over}
 use Rattle.onepass.proofs.fields.digits.Statement.{statement}
 use Rattle.onepass.proofs.fields.digits.Tie as tie
 
 abbrev Inv-loop : tie.InvT-loop
-Inv-loop s at most n₀ i₀ n i = (i ≤ length s) × (n ≤ most) × Running s at i n
+Inv-loop s at first end n₀ i₀ n i = (at < i) × (end ≤ at + 9) × (i ≤ at + 9) × (end ≤ length s) × (i ≤ length s) × Running s at i n
 
 abbrev μ-loop : tie.MeasureT-loop
-μ-loop s at most n₀ i₀ n i = length s - i
+μ-loop s at first end n₀ i₀ n i = end - i
+
+sub-lesser : tie.Need-sub-lesser Inv-loop μ-loop
+sub-lesser c = omega arith
+
+lesser-requires : tie.Need-lesser-requires Inv-loop μ-loop
+lesser-requires c κs = search needs
+
+add-end : tie.Need-add-end Inv-loop μ-loop
+add-end c = omega arith
+
+add-i : tie.Need-add-i Inv-loop μ-loop
+add-i c = omega arith
 
 loop-holds : tie.Need-loop-holds Inv-loop μ-loop
-loop-holds c = (omega arith, omega arith, running-none _ _)
+loop-holds c = (omega arith, omega arith, omega arith, omega arith, omega arith, running-first _ _ _ (omega arith) (omega arith) (omega arith))
 
-shared-slice-read-b : tie.Need-shared-slice-read-b Inv-loop μ-loop
-shared-slice-read-b c = omega arith
+shared-slice-read-wrapping-sub-u8 : tie.Need-shared-slice-read-wrapping-sub-u8 Inv-loop μ-loop
+shared-slice-read-wrapping-sub-u8 c = omega arith
 
-returns : tie.Need-returns Inv-loop μ-loop
-returns c = (running-over _ _ _ _ (c .before .before .before .loop .inv .2) (omega arith), omega arith)
-
-returns-2 : tie.Need-returns-2 Inv-loop μ-loop
-returns-2 c = (running-over _ _ _ _ (c .before .before .before .before .loop .inv .2) (omega arith), omega arith)
+wrapping-sub-u8-requires : tie.Need-wrapping-sub-u8-requires Inv-loop μ-loop
+wrapping-sub-u8-requires c κs = search needs
 
 mul-n : tie.Need-mul-n Inv-loop μ-loop
-mul-n c = omega arith
+mul-n c = omega (arith, running-small _ _ _ _ (c .before .before .before .before .loop .inv .5) (omega arith))
 
 cast-n : tie.Need-cast-n Inv-loop μ-loop
 cast-n c = omega arith
 
-cast-n-2 : tie.Need-cast-n-2 Inv-loop μ-loop
-cast-n-2 c = omega arith
-
-sub-n : tie.Need-sub-n Inv-loop μ-loop
-sub-n c = omega arith
-
 add-n : tie.Need-add-n Inv-loop μ-loop
-add-n c = omega arith
+add-n c = omega (arith, running-small _ _ _ _ (c .before .before .before .before .loop .inv .5) (omega arith))
 
-given-up-requires : tie.Need-given-up-requires Inv-loop μ-loop
-given-up-requires c κs = search needs
-
-returns-3 : tie.Need-returns-3 Inv-loop μ-loop
-returns-3 c = (no-run _ _ _ (c .given-up .ensures .0), omega arith)
-
-add-i : tie.Need-add-i Inv-loop μ-loop
-add-i c = omega arith
+add-i-2 : tie.Need-add-i-2 Inv-loop μ-loop
+add-i-2 c = omega arith
 
 loop-less : tie.Need-loop-less Inv-loop μ-loop
 loop-less c = omega arith
 
 loop-again : tie.Need-loop-again Inv-loop μ-loop
-loop-again c = (omega arith, omega arith, running-next _ _ _ _ _ (c .before .before .before .before .before .loop .inv .2) (omega arith) refl (omega arith))
+loop-again c = (omega arith, omega arith, omega arith, omega arith, omega arith, running-next _ _ _ _ _ (c .before .before .before .before .loop .inv .5) (omega arith) (c .before .wrapping-sub-u8 .ensures) (omega arith))
 
-returns-4 : tie.Need-returns-4 Inv-loop μ-loop
-returns-4 c = (running-over _ _ _ _ (c .before .loop .inv .2) (omega arith), omega arith)
+returns : tie.Need-returns Inv-loop μ-loop
+returns c = (running-over _ _ _ _ (c .before .loop .inv .5) (omega arith), omega arith)
+
+returns-2 : tie.Need-returns-2 Inv-loop μ-loop
+returns-2 c = (running-over _ _ _ _ (c .before .before .before .before .loop .inv .5) (omega arith), omega arith)
 
 pub digits-spec : {M : Type 1} → statement M
 digits-spec =
@@ -65,18 +64,18 @@ digits-spec =
     (tie.spec
     Inv-loop
     μ-loop
+    sub-lesser
+    lesser-requires
+    add-end
+    add-i
     loop-holds
-    shared-slice-read-b
-    returns
-    returns-2
+    shared-slice-read-wrapping-sub-u8
+    wrapping-sub-u8-requires
     mul-n
     cast-n
-    cast-n-2
-    sub-n
     add-n
-    given-up-requires
-    returns-3
-    add-i
+    add-i-2
     loop-less
     loop-again
-    returns-4)
+    returns
+    returns-2)

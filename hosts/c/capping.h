@@ -5,7 +5,7 @@
  * with length 0. Everything belongs to the caller: what is const is only read, what isn't is written during the call, and
  * nothing is kept or freed. What is written may overlap nothing else that is lent to the same call. There is no state but the
  * days that callers keep, so threads may call at the same time, on a day each. A call takes up to 136 KiB of stack,
- * and one with curves up to 304 KiB.
+ * and one with curves up to 328 KiB.
  *
  * A curves or a parents file of length 0 is none; each other file of length 0 is one record with one blank field.
  * docs/REFUSALS.md says what each number means and how to mend it. */

@@ -8,7 +8,7 @@
 #define ROUNDS 500
 
 /* What capping.h says of a call with curves, and some for the thread itself. */
-#define CALL_STACK (304 * 1024)
+#define CALL_STACK (328 * 1024)
 #define OWN_STACK (16 * 1024)
 
 /* A thread with a day of its own, on which a unit runs that the others don't have. */

@@ -19,14 +19,13 @@ use Rattle.tables.proofs.Accepted.{accepted}
 use Rattle.tables.proofs.Starred.{starred·all}
 use Rattle.tables.specs.Refusals.{refused}
 use Rattle.tables.specs.promises.FlatRows.{scheduleRows, pointRows}
-use Rattle.links.specs.promises.Links.{RowsLinked}
 use Rattle.curves.specs.Curves.{strayPoint, disordered, endsLow}
 use Rattle.curves.specs.promises.Placing.{PointCells, Placed, PointsPlaced, LastsIn, OrderFound}
 use Rattle.curves.specs.promises.Pricing.{RowsPriced}
 use Rattle.curves.proofs.Computing.{curves·all}
 use Rattle.curves.proofs.EndLaws.{ends-low-none}
 use Rattle.curves.proofs.OrderLaws.{disordered-none}
-use Rattle.curves.proofs.PricedLaws.{no-points, rows-priced, priced-linked}
+use Rattle.curves.proofs.PricedLaws.{no-points, rows-priced}
 use Rattle.checking.specs.Files.{orHeader, curvesOf, pointRefusals, aloneRefusals, curvesRefusals}
 use Rattle.checking.specs.promises.Curves.{Prices, RowsPricedBy, CurvesChecked, curveRefusals, CurvesHeld}
 use Rattle.checking.proofs.FilesLaws.{was-read, was-refused, curves-count, point-rows}
@@ -36,10 +35,9 @@ use Rattle.checking.proofs.Computing.{files·all}
 
 -- refused, whatever the rows are now
 pub prices-refused :
-    (o : Option Refusal) (vs : List PointRow) (n : ℕ) (old new links : List ℕ) (count : ℕ) (x : Refusal) → o ≡ some x →
-    Prices o vs n old new links count (NotRead x)
-prices-refused o vs n old new links count x e =
-    record { answers = rw e; by-curves = λ z. some-none (sym e ∙ z); linked = λ z. some-none (sym e ∙ z) }
+    (o : Option Refusal) (vs : List PointRow) (n : ℕ) (old new : List ℕ) (count : ℕ) (x : Refusal) → o ≡ some x →
+    Prices o vs n old new count (NotRead x)
+prices-refused o vs n old new count x e = record { answers = rw e; by-curves = λ z. some-none (sym e ∙ z) }
 
 -- a file of no bytes
 pub no-curves : curvesOf [] ≡ []
@@ -50,15 +48,13 @@ pub no-curves-refused : (rs : List ScheduleRow) → firstOf (curvesRefusals rs [
 unfolding files·all starred·all curves·all
 no-curves-refused rs = refl
 
-pub no-curves-passed :
-    (k : List ℕ) → length k ≡ 0 → (n : ℕ) (cells links : List ℕ) → RowsLinked cells n links → CurvesChecked k n cells cells links (RowsRead 0)
-no-curves-passed [] e n cells links l =
+pub no-curves-passed : (k : List ℕ) → length k ≡ 0 → (n : ℕ) (cells : List ℕ) → CurvesChecked k n cells cells (RowsRead 0)
+no-curves-passed [] e n cells =
     record {
       answers = rw (no-curves-refused (scheduleRows n cells), no-curves);
       by-curves = λ _. rw no-curves (sym (no-points (scheduleRows n cells)));
-      linked = λ _. l;
     }
-no-curves-passed (b ∷ k) e n cells links l = absurd (omega arith)
+no-curves-passed (b ∷ k) e n cells = absurd (omega arith)
 
 -- points that have their rows, held to 33
 module _ (m : ℕ) (points places lasts : List ℕ) (fault : ℕ) (ordered : OrderFound m points places lasts fault) where
@@ -108,33 +104,28 @@ module _ (m : ℕ) (points : List ℕ) (n : ℕ) (cells places : List ℕ) (stra
   pub all-placed : stray ≡ 0 → Placed m points n cells places
   all-placed z = placed .all-placed (none-stray z)
 
-  module _ (links : List ℕ) where
-    pub point-stray :
-        (stray ≡ 0 → ⊥) → {x : Refusal} → x ≡ refused 32 Curves stray → RowsPricedBy m points n cells cells links (NotRead x)
-    unfolding pointRefusals
-    point-stray h {x} f =
-        prices-refused _ _ n cells cells links m x
-        (first-of-here _ _ _ (rw (place-is (strayPoint (scheduleRows n cells) (pointRows m points)) stray (placed .stray) h, f)))
+  pub point-stray : (stray ≡ 0 → ⊥) → {x : Refusal} → x ≡ refused 32 Curves stray → RowsPricedBy m points n cells cells (NotRead x)
+  unfolding pointRefusals
+  point-stray h {x} f =
+      prices-refused _ _ n cells cells m x
+      (first-of-here _ _ _ (rw (place-is (strayPoint (scheduleRows n cells) (pointRows m points)) stray (placed .stray) h, f)))
 
-    pub points-held :
-        stray ≡ 0 → RowsLinked cells n links → (new : List ℕ) (r : Reading) → CurvesHeld m points n cells new r →
-        RowsPricedBy m points n cells new links r
-    unfolding pointRefusals curveRefusals
-    points-held z l new r held =
-        let later : firstOf (pointRefusals (scheduleRows n cells) (pointRows m points)) ≡ firstOf (curveRefusals (scheduleRows n cells) (pointRows m points)) =
-        first-of-later _ _ (ap (Option·map (refused 32 Curves)) (none-stray z)) in
-        record {
-          answers = held .answers ∙ rw later;
-          by-curves = λ e. rows-priced (held .by-curves (sym later ∙ e));
-          linked = λ e. priced-linked (held .by-curves (sym later ∙ e)) l;
-        }
+  pub points-held : stray ≡ 0 → (new : List ℕ) (r : Reading) → CurvesHeld m points n cells new r → RowsPricedBy m points n cells new r
+  unfolding pointRefusals curveRefusals
+  points-held z new r held =
+      let later : firstOf (pointRefusals (scheduleRows n cells) (pointRows m points)) ≡ firstOf (curveRefusals (scheduleRows n cells) (pointRows m points)) =
+      first-of-later _ _ (ap (Option·map (refused 32 Curves)) (none-stray z)) in
+      record {
+        answers = held .answers ∙ rw later;
+        by-curves = λ e. rows-priced (held .by-curves (sym later ∙ e));
+      }
 
 -- a file of some bytes
 module _ (k old cells : List ℕ) (r : Reading) (whole : orHeader Curves k ≡ k) (read : FileRead Curves k old cells r) where
-  pub curves-unread : (n : ℕ) (rows links : List ℕ) {x : Refusal} → r ≡ NotRead x → CurvesChecked k n rows rows links (NotRead x)
+  pub curves-unread : (n : ℕ) (rows : List ℕ) {x : Refusal} → r ≡ NotRead x → CurvesChecked k n rows rows (NotRead x)
   unfolding curvesRefusals aloneRefusals
-  curves-unread n rows links {x} e =
-      prices-refused _ _ n rows rows links _ x (first-of-here _ _ _ (rw whole (was-refused Curves k (read .answers) e)))
+  curves-unread n rows {x} e =
+      prices-refused _ _ n rows rows _ x (first-of-here _ _ _ (rw whole (was-refused Curves k (read .answers) e)))
 
   module _ (m : ℕ) (e : r ≡ RowsRead m) where
     were-read : refusal Curves k ≡ none
@@ -152,9 +143,9 @@ module _ (k old cells : List ℕ) (r : Reading) (whole : orHeader Curves k ≡ k
         record { few = few; inside = omega (arith, curves-room) }
 
     pub curves-passed :
-        (n : ℕ) (rows new links : List ℕ) (a : Reading) → RowsPricedBy m cells n rows new links a → CurvesChecked k n rows new links a
+        (n : ℕ) (rows new : List ℕ) (a : Reading) → RowsPricedBy m cells n rows new a → CurvesChecked k n rows new a
     unfolding curvesRefusals aloneRefusals
-    curves-passed n rows new links a prices =
+    curves-passed n rows new a prices =
         let rest : firstOf (curvesRefusals (scheduleRows n rows) k) ≡ firstOf (pointRefusals (scheduleRows n rows) (curvesOf k)) =
         first-of-later _ _ (rw whole were-read) in
         rw (rest, ← number, ← points-read) prices

@@ -1,5 +1,5 @@
 -- Laws of rows that are held to the rules while curves put prices into them: one for each way through the code. Assumes nothing.
-use Prim.Native.Nat.{ℕ, _*_, _≤_}
+use Prim.Native.Nat.{ℕ}
 use mathlib.Core.Path.{_≡_, refl, sym, _∙_}
 use mathlib.Core.List.{List, _∷_}
 use mathlib.Core.Option.{Option, none, some, Option·map}
@@ -14,12 +14,10 @@ use Rattle.tables.specs.declared.files.Reading.{Reading}
 use Rattle.tables.specs.declared.files.Reading.the-variants.{Rows as RowsRead, Refused as NotRead}
 use Rattle.tables.specs.declared.files.Refusal.{Refusal}
 use Rattle.tables.specs.promises.FlatRows.{scheduleRows}
-use Rattle.cells.specs.promises.Views.{scheduleWidth}
 use Rattle.links.specs.promises.Links.{RowsLinked}
 use Rattle.schedules.specs.Schedules.{notInSupply}
 use Rattle.schedules.specs.promises.Ranges.{Checked}
-use Rattle.curves.specs.promises.Placing.{RowCells}
-use Rattle.curves.proofs.PricedLaws.{priced-odds, priced-scheduled, priced-runs, priced-permitted}
+use Rattle.curves.proofs.PricedLaws.{priced-odds, priced-scheduled, priced-runs, priced-permitted, priced-linked}
 use Rattle.checking.specs.promises.Alone.{rowsUnless}
 use Rattle.checking.specs.promises.Curves.{CurvesChecked, RowsHeld, PricedHeld}
 use Rattle.checking.specs.promises.Rules.{pricedRefusals}
@@ -28,32 +26,28 @@ use Rattle.checking.proofs.CurvesLaws.{prices-refused, no-curves-passed
 use Rattle.checking.proofs.KeptLaws.{curves-kept}
 use Rattle.checking.proofs.RuleLaws.{rows-answered, refused-answered, seventh-broken, seventh-kept}
 
--- what checking curves asks of the rows
-pub row-cells : {n hour : ℕ} {cells links : List ℕ} → n * scheduleWidth ≤ length cells → RowsLinked cells n links → Checked hour (scheduleRows n cells) → RowCells n cells
-row-cells h l c = record { few = l .by-unit .few; inside = h; agree = c .agree }
-
 -- 7, then the rest
 module _
-    (waiting : Option Refusal) (hour : ℕ) (us k : List ℕ) (n : ℕ) (old links : List ℕ) {p : Reading}
+    (waiting : Option Refusal) (hour : ℕ) (us k : List ℕ) (n : ℕ) (old : List ℕ) {p : Reading}
     (first : p ≡ rowsUnless (Option·map (refused 7 Schedules) (notInSupply us (scheduleRows n old))) n)
   where
-    pub rows-not-known : {x : Refusal} → p ≡ NotRead x → RowsHeld waiting hour us k n old old links (NotRead x)
-    rows-not-known {x} e = prices-refused _ _ n old old links n x (seventh-broken waiting hour us (scheduleRows n old) k n first e)
+    pub rows-not-known : {x : Refusal} → p ≡ NotRead x → RowsHeld waiting hour us k n old old (NotRead x)
+    rows-not-known {x} e = prices-refused _ _ n old old n x (seventh-broken waiting hour us (scheduleRows n old) k n first e)
 
     pub rows-known :
-        {m : ℕ} → p ≡ RowsRead m → (new : List ℕ) (r : Reading) → PricedHeld waiting hour us k n old new links r →
-        RowsHeld waiting hour us k n old new links r
+        {m : ℕ} → p ≡ RowsRead m → (new : List ℕ) (r : Reading) → PricedHeld waiting hour us k n old new r →
+        RowsHeld waiting hour us k n old new r
     rows-known e new r held = rw (seventh-kept waiting hour us (scheduleRows n old) k n first e) held
 
 -- curves
-module _ (k : List ℕ) (n : ℕ) (old new links : List ℕ) {q : Reading} (curves : CurvesChecked k n old new links q) where
+module _ (k : List ℕ) (n : ℕ) (old new : List ℕ) {q : Reading} (curves : CurvesChecked k n old new q) where
   module _ {m : ℕ} (e : q ≡ RowsRead m) where
     none-refused : firstOf (curvesRefusals (scheduleRows n old) k) ≡ none
     none-refused = rows-answered _ (length (curvesOf k)) (sym (curves .answers) ∙ e) .0
 
     -- the rows are linked, and such as the rules ask for, at their prices too
-    pub still-linked : RowsLinked new n links
-    still-linked = curves .linked none-refused
+    pub still-linked : {links : List ℕ} → RowsLinked old n links → RowsLinked new n links
+    still-linked = priced-linked (curvesOf k) n old new (curves .by-curves none-refused)
 
     pub still-checked : (hour : ℕ) → Checked hour (scheduleRows n old) → Checked hour (scheduleRows n new)
     unfolding curvesRefusals aloneRefusals
@@ -76,10 +70,10 @@ module _ (k : List ℕ) (n : ℕ) (old new links : List ℕ) {q : Reading} (curv
 
   -- then what waits, then 8 and 9
   module _ (waiting : Option Refusal) (hour : ℕ) (us : List ℕ) where
-    pub curves-refused : {x : Refusal} → q ≡ NotRead x → PricedHeld waiting hour us k n old new links (NotRead x)
+    pub curves-refused : {x : Refusal} → q ≡ NotRead x → PricedHeld waiting hour us k n old new (NotRead x)
     unfolding pricedRefusals
     curves-refused {x} e =
-        prices-refused _ _ n old new links n x
+        prices-refused _ _ n old new n x
         (first-of-part (curvesRefusals (scheduleRows n old) k) _ x (refused-answered _ (length (curvesOf k)) (sym (curves .answers) ∙ e)))
 
     module _ {m : ℕ} (e : q ≡ RowsRead m) where
@@ -87,27 +81,25 @@ module _ (k : List ℕ) (n : ℕ) (old new links : List ℕ) {q : Reading} (curv
       unfolding pricedRefusals
       waiting-first = first-of-rest (curvesRefusals (scheduleRows n old) k) _ (none-refused e)
 
-      pub waited : {x : Refusal} → waiting ≡ some x → PricedHeld waiting hour us k n old new links (NotRead x)
-      waited {x} w = prices-refused _ _ n old new links n x (waiting-first ∙ first-of-here _ _ _ w)
+      pub waited : {x : Refusal} → waiting ≡ some x → PricedHeld waiting hour us k n old new (NotRead x)
+      waited {x} w = prices-refused _ _ n old new n x (waiting-first ∙ first-of-here _ _ _ w)
 
       pub units-held :
           waiting ≡ none → {r : Reading} → r ≡ rowsUnless (firstOf (unitsRefusals hour us (scheduleRows n new))) n →
-          PricedHeld waiting hour us k n old new links r
+          PricedHeld waiting hour us k n old new r
       units-held w held =
           record {
             answers = held ∙ rw (same-units e hour us, waiting-first ∙ first-of-later _ _ w);
             by-curves = λ _. curves .by-curves (none-refused e);
-            linked = λ _. still-linked e;
           }
 
 -- no curves
 pub held-unpriced :
-    (k : List ℕ) → length k ≡ 0 → (n : ℕ) (cells links : List ℕ) → RowsLinked cells n links → (waiting : Option Refusal) (hour : ℕ) (us : List ℕ) (r : Reading) →
-    r ≡ rowsUnless (firstOf (waiting ∷ unitsRefusals hour us (scheduleRows n cells))) n → PricedHeld waiting hour us k n cells cells links r
-held-unpriced k e n cells links l waiting hour us r held =
-    let curves = no-curves-passed k e n cells links l in
+    (k : List ℕ) → length k ≡ 0 → (n : ℕ) (cells : List ℕ) (waiting : Option Refusal) (hour : ℕ) (us : List ℕ) (r : Reading) →
+    r ≡ rowsUnless (firstOf (waiting ∷ unitsRefusals hour us (scheduleRows n cells))) n → PricedHeld waiting hour us k n cells cells r
+held-unpriced k e n cells waiting hour us r held =
+    let curves = no-curves-passed k e n cells in
     record {
-      answers = held ∙ rw (waiting-first k n cells cells links curves waiting hour us refl);
-      by-curves = λ _. curves .by-curves (none-refused k n cells cells links curves refl);
-      linked = λ _. l;
+      answers = held ∙ rw (waiting-first k n cells cells curves waiting hour us refl);
+      by-curves = λ _. curves .by-curves (none-refused k n cells cells curves refl);
     }

@@ -22,7 +22,7 @@ use Rattle.tables.specs.promises.FlatRows.{scheduleRows}
 use Rattle.cells.specs.promises.Views.{scheduleWidth}
 use Rattle.links.specs.promises.Links.{RowsLinked}
 use Rattle.supply.specs.Supply.{units}
-use Rattle.curves.proofs.PricedLaws.{priced-count}
+use Rattle.curves.proofs.PricedLaws.{priced-count, priced-linked}
 use Rattle.schedules.specs.Schedules.{schedulesAtOdds}
 use Rattle.schedules.specs.promises.Ranges.{Checked}
 use Rattle.checking.specs.promises.Alone.{constraintUnless, constraintChecked, supplyUnless, SupplyChecked, SchedulesChecked}
@@ -136,7 +136,7 @@ module _ (h cells links : List ℕ) {q : Reading} (read : SchedulesChecked (alon
         }
 
     pub beside-passed :
-        (k : List ℕ) (w : Option Refusal) (hour : ℕ) (us new : List ℕ) (a : Reading) → RowsHeld w hour us k n cells new links a →
+        (k : List ℕ) (w : Option Refusal) (hour : ℕ) (us new : List ℕ) (a : Reading) → RowsHeld w hour us k n cells new a →
         SchedulesChecked (besideRefusals (w ∷ []) hour us h k) (pricedRows h k) new links a
     beside-passed k w hour us new a held =
         let first : firstOf (besideRefusals (w ∷ []) hour us h k) ≡ firstOf (heldRefusals w hour us (scheduleRows n cells) k) =
@@ -148,6 +148,6 @@ module _ (h cells links : List ℕ) {q : Reading} (read : SchedulesChecked (alon
               λ z.
               record {
                 laid = rw count (held .by-curves (sym first ∙ z) ∙ rw rows-are);
-                linked = rw count (held .linked (sym first ∙ z));
+                linked = rw count (priced-linked (curvesOf k) n cells new (held .by-curves (sym first ∙ z)) rows-linked);
               };
         }

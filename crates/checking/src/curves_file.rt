@@ -5,7 +5,6 @@ ghost use mathlib.Core.Path.{_≡_};
 ghost use lib.ListN.{length};
 ghost use Rattle.checking.specs.promises.Curves.{CurvesChecked, RowsPricedBy, CurvesHeld};
 ghost use Rattle.curves.specs.promises.Placing.{PointCells, RowCells, Placed};
-ghost use Rattle.links.specs.promises.Links.{RowsLinked};
 use crate::lengths::POINT_CELLS;
 use crate::lengths::POINTS;
 use crate::lengths::ROW_PLACES;
@@ -17,34 +16,32 @@ use curves::disordered;
 use curves::ends_low;
 use curves::place_points;
 use curves::price_rows;
-use links::UNIT_LINKS;
 use tables::File;
 use tables::Reading;
 
-// Reads curves, and puts the prices at their ecomin into the first `n` rows of schedules.
-pub fn check_curves(curves: &[u8], cells: &mut [u64], n: usize, links: &[u16]) -> Reading
+// Reads curves, and puts the prices at their ecomin into the first `n` rows of schedules, which are of these
+// units.
+pub fn check_curves(curves: &[u8], cells: &mut [u64], n: usize, units: &[u64]) -> Reading
     requires { ⌜ (length (now curves) ≡ 0 → ⊥) ⌝ }
     requires { ⌜ RowCells n (now cells) ⌝ }
-    requires { ⌜ RowsLinked (now cells) n (now links) ⌝ }
-    ensures { λ r. ⌜ CurvesChecked (now (curves .entry)) n (now (cells .entry)) (now (cells .exit)) (now (links .entry)) r ⌝ }
+    ensures { λ r. ⌜ CurvesChecked (now (curves .entry)) n (now (cells .entry)) (now (cells .exit)) r ⌝ }
 {
     let mut points = [0u64; POINT_CELLS];
     let reading = onepass::read(File::Curves, curves, &mut points);
     match reading {
         Reading::Refused(refusal) => Reading::Refused(refusal),
-        Reading::Rows(count) => hold_points(&points, count, cells, n, links),
+        Reading::Rows(count) => hold_points(&points, count, cells, n, units),
     }
 }
 
 // Holds points to 32, and then to the rest.
-fn hold_points(points: &[u64], m: usize, cells: &mut [u64], n: usize, links: &[u16]) -> Reading
+fn hold_points(points: &[u64], m: usize, cells: &mut [u64], n: usize, units: &[u64]) -> Reading
     requires { ⌜ PointCells m (now points) ⌝ }
     requires { ⌜ RowCells n (now cells) ⌝ }
-    requires { ⌜ RowsLinked (now cells) n (now links) ⌝ }
-    ensures { λ r. ⌜ RowsPricedBy m (now (points .entry)) n (now (cells .entry)) (now (cells .exit)) (now (links .entry)) r ⌝ }
+    ensures { λ r. ⌜ RowsPricedBy m (now (points .entry)) n (now (cells .entry)) (now (cells .exit)) r ⌝ }
 {
     let mut places = [0u16; POINTS];
-    let stray = place_points(points, m, cells, n, &links[UNIT_LINKS..], &mut places);
+    let stray = place_points(points, m, cells, n, units, &mut places);
     if stray != 0 {
         return Reading::Refused(refused(STRAY_POINT, File::Curves, stray as u64));
     }

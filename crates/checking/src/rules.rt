@@ -50,7 +50,7 @@ pub fn hold(
     requires { ⌜ RowsLinked (now cells) n (now links) ⌝ }
     requires { ⌜ market .units ≤ length (now units) ⌝ }
     requires { ⌜ Checked (market .constraint .hour) (scheduleRows n (now cells)) ⌝ }
-    ensures { λ r. ⌜ RowsHeld (refusalIn parents) (market .constraint .hour) (take (market .units) (now (units .entry))) (now (curves .entry)) n (now (cells .entry)) (now (cells .exit)) (now (links .entry)) r ⌝ }
+    ensures { λ r. ⌜ RowsHeld (refusalIn parents) (market .constraint .hour) (take (market .units) (now (units .entry))) (now (curves .entry)) n (now (cells .entry)) (now (cells .exit)) r ⌝ }
 {
     let known = hold_to(Rule::NotInSupply, market, cells, n, links, units);
     match known {
@@ -75,21 +75,23 @@ fn hold_priced(
     requires { ⌜ RowsLinked (now cells) n (now links) ⌝ }
     requires { ⌜ market .units ≤ length (now units) ⌝ }
     requires { ⌜ Checked (market .constraint .hour) (scheduleRows n (now cells)) ⌝ }
-    ensures { λ r. ⌜ PricedHeld (refusalIn parents) (market .constraint .hour) (take (market .units) (now (units .entry))) (now (curves .entry)) n (now (cells .entry)) (now (cells .exit)) (now (links .entry)) r ⌝ }
+    ensures { λ r. ⌜ PricedHeld (refusalIn parents) (market .constraint .hour) (take (market .units) (now (units .entry))) (now (curves .entry)) n (now (cells .entry)) (now (cells .exit)) r ⌝ }
 {
     if curves.len() == 0 {
         return hold_unpriced(market, parents, cells, n, links, units);
     }
+    let count = market.units;
+    let known = &units[0..count];
     match parents {
         Reading::Refused(waiting) => {
-            let points = check_curves(curves, cells, n, links);
+            let points = check_curves(curves, cells, n, known);
             match points {
                 Reading::Refused(sooner) => Reading::Refused(sooner),
                 Reading::Rows(_) => Reading::Refused(waiting),
             }
         }
         Reading::Rows(_) => {
-            let points = check_curves(curves, cells, n, links);
+            let points = check_curves(curves, cells, n, known);
             match points {
                 Reading::Refused(refusal) => Reading::Refused(refusal),
                 Reading::Rows(_) => hold_units(market, cells, n, links, units),

@@ -1,6 +1,7 @@
 pub mod Computed
 pub mod Computing
 pub mod EndLaws
+pub mod KeyLaws
 pub mod OrderLaws
 pub mod PlacingLaws
 pub mod PointLaws

@@ -20,10 +20,11 @@ use Rattle.tables.specs.Rows.{ScheduleRow, PointRow}
 use Rattle.tables.specs.promises.FlatRows.{scheduleRows, pointRows}
 use Rattle.cells.specs.promises.Views.{scheduleAt, pointAt}
 use Rattle.cells.proofs.RowViews.{point-next, point-length}
-use Rattle.links.specs.promises.Links.{mostLinked, Linked, Along, scheduleKeys, bySchedule, scheduleKey}
+use Rattle.links.specs.promises.Links.{mostLinked, Linked, Along}
 use Rattle.links.proofs.LinkLaws.{any-place, along-key, along-over}
 use Rattle.schedules.proofs.SearchLaws.{rows-any}
 use Rattle.curves.specs.Curves.{ScheduleHour, pointOf, strayPoint}
+use Rattle.curves.specs.promises.Keys.{ownKeys, ownKey, rowKey}
 use Rattle.curves.specs.promises.Placing.{RowCells, RowFound, Placed, PointsPlaced, CurvePlaces}
 use Rattle.curves.proofs.PointLaws.{of-row, row-once, one-curve}
 
@@ -33,11 +34,11 @@ module _ (points : List ℕ) (i n : ℕ) (cells : List ℕ) where
   at j = pointOf (scheduleAt cells j) (pointAt points i)
 
   pub along-point :
-      (links : List ℕ) (x u s : ℕ) → Linked (scheduleKey cells) scheduleKeys n links → u ≡ pointAt points i .unit →
-      s ≡ pointAt points i .schedule → x ≡ bySchedule u s → x < scheduleKeys → Along at n links (getD links (mostLinked + x) 0)
-  along-point links x u s l is-unit is-schedule is one = along-key at x l one alike
+      (numbers links : List ℕ) (x u s : ℕ) → Linked (rowKey numbers cells) ownKeys n links → u ≡ pointAt points i .unit →
+      s ≡ pointAt points i .schedule → x ≡ ownKey numbers u s → x < ownKeys → Along at n links (getD links (mostLinked + x) 0)
+  along-point numbers links x u s l is-unit is-schedule is one = along-key at x l one alike
     where
-      alike : (j : ℕ) → at j ≡ true → scheduleKey cells j ≡ x
+      alike : (j : ℕ) → at j ≡ true → rowKey numbers cells j ≡ x
       alike j e =
           let same = of-row (scheduleAt cells j) (pointAt points i) e in
           rw (is, is-unit, is-schedule, ap (λ (h : ScheduleHour). h .unit) same, ap (λ (h : ScheduleHour). h .schedule) same)

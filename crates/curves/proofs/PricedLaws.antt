@@ -1,6 +1,6 @@
 -- What pricing rows by curves changes and what it leaves: rows without points keep their column; the rules 6 to 9 see no price; prices stay
 -- within their range; and a unit's rows are priced by its own rows and its own points alone. Assumes nothing.
-use Prim.Native.Nat.{ℕ, zero, suc, _-_, _≤_, _<_}
+use Prim.Native.Nat.{ℕ, zero, suc, _+_, _-_, _≤_, _<_}
 use mathlib.Core.Path.{_≡_, refl, sym, _∙_, ap, ap₂}
 use mathlib.Core.Bool.{Bool, true, false, cond, not, _&&_}
 use mathlib.Core.List.{List, [], _∷_, map}
@@ -12,7 +12,7 @@ use borrow.Author.Tests.{eq-eqb, eqb-true}
 use Rattle.base.specs.Rising.{among}
 use Rattle.base.specs.Search.{any, find, those, firstAtOdds, All, all-none, all-more}
 use Rattle.base.proofs.Elements.{all-those, find-same, those-within}
-use Rattle.base.proofs.Lists.{drop-end}
+use Rattle.base.proofs.Lists.{drop-end, drop-map}
 use Rattle.base.proofs.Mapped.{any-made, first-made, those-made}
 use Rattle.hours.specs.Hours.{runEnd}
 use Rattle.tables.specs.Rows.{ScheduleRow, PointRow}
@@ -180,9 +180,21 @@ module _ {m : ℕ} {points : List ℕ} {n : ℕ} {old new : List ℕ} (p : RowsP
       (λ (j : ℕ) (f : j < n). rw (schedule-next n old j f))
       (p .each)
 
+-- rows at the prices of points are linked as they were
+module _ (vs : List PointRow) (n : ℕ) (old new : List ℕ) (are : scheduleRows n new ≡ priced vs (scheduleRows n old)) where
+  row-priced : (j : ℕ) → j < n → scheduleAt new j ≡ pricedRow vs (scheduleAt old j)
+  unfolding priced
+  row-priced j h =
+      let rest :
+      scheduleAt new j ∷ drop (j + 1) (scheduleRows n new)
+      ≡ pricedRow vs (scheduleAt old j) ∷ map (pricedRow vs) (drop (j + 1) (scheduleRows n old)) =
+      sym (schedule-next n new j h) ∙ ap (drop j) are ∙ drop-map (pricedRow vs) j (scheduleRows n old)
+      ∙ ap (map (pricedRow vs)) (schedule-next n old j h) in
+      cc
+
   pub priced-linked : {links : List ℕ} → RowsLinked old n links → RowsLinked new n links
   unfolding pricedRow withPrice
   priced-linked =
       rows-same old new n
-      (λ j h. ap (λ (r : ScheduleRow). r .unit) (p .each j h))
-      (λ j h. ap (λ (r : ScheduleRow). r .schedule) (p .each j h))
+      (λ j h. ap (λ (r : ScheduleRow). r .unit) (row-priced j h))
+      (λ j h. ap (λ (r : ScheduleRow). r .schedule) (row-priced j h))

@@ -2,6 +2,7 @@
 // prices of their curves. Points and rows stand in runs of cells, which their readers know to be within
 // the table's ranges.
 mod ending;
+mod keys;
 mod ordering;
 mod placing;
 mod pricing;

@@ -21,7 +21,7 @@ unlinked (suc n) zero = refl
 unlinked (suc n) (suc i) = unlinked n i
 
 -- a row comes in either part of a run, of which each is lent
-row-length : (links : List ℕ) (x k : ℕ) → length (rowLinked links x k) ≡ length links
+pub row-length : (links : List ℕ) (x k : ℕ) → length (rowLinked links x k) ≡ length links
 row-length links x k = simp length-set
 
 pub parts-linked :
@@ -46,7 +46,7 @@ parts-linked a links by-first by-second x y k room first second =
 pub record Linking (key : ℕ → ℕ) (keys n : ℕ) (links : List ℕ) (k : ℕ) : Type 0 where
   upto : k ≤ n
   few : n ≤ mostLinked
-  room : mostLinked + keys ≤ length links
+  pub room : mostLinked + keys ≤ length links
   by-row : (i : ℕ) → i < k → getD links i 0 ≡ lastSame key (key i) i
   by-key : (x : ℕ) → x < keys → getD links (mostLinked + x) 0 ≡ lastSame key x k
 
@@ -60,7 +60,7 @@ module _ (key : ℕ → ℕ) where
   last-later x k e = rw (ne-eqb (key k) x e)
 
   module _ (keys n : ℕ) where
-    linking-none :
+    pub linking-none :
         (links : List ℕ) → n ≤ mostLinked → mostLinked + keys ≤ length links →
         ((x : ℕ) → x < keys → getD links (mostLinked + x) 0 ≡ 0) → Linking key keys n links 0
     unfolding lastSame
@@ -111,7 +111,7 @@ module _ (key : ℕ → ℕ) where
               getD-set-other stored (mostLinked + x) (mostLinked + y) (k + 1) 0 (λ (s : mostLinked + y ≡ mostLinked + x). e (omega arith))
               ∙ key-kept y ∙ l .by-key y f ∙ sym (last-later y k (λ (s : key k ≡ y). e (sym s ∙ sym is)))
 
-      linking-next : (next : List ℕ) → next ≡ rowLinked now x k → Linking key keys n next (k + 1)
+      pub linking-next : (next : List ℕ) → next ≡ rowLinked now x k → Linking key keys n next (k + 1)
       linking-next next e =
           rw e
           record {
@@ -122,7 +122,7 @@ module _ (key : ℕ → ℕ) where
             by-key = keys-next;
           }
 
-    linking-over : (now : List ℕ) (k : ℕ) → Linking key keys n now k → n ≤ k → Linked key keys n now
+    pub linking-over : (now : List ℕ) (k : ℕ) → Linking key keys n now k → n ≤ k → Linked key keys n now
     linking-over now k l h =
         let all : k ≡ n = omega (arith, l .upto) in
         record { few = l .few; room = l .room; by-row = rw all at (l .by-row); by-key = rw all at (l .by-key) }

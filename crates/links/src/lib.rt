@@ -38,7 +38,7 @@ pub fn link_row(links: &mut [u16], unit: u64, schedule: u64, k: usize)
 }
 
 // Links row `k`, of the key, to the last row before it, and the key to the row.
-fn link(links: &mut [u16], key: usize, k: usize)
+pub fn link(links: &mut [u16], key: usize, k: usize)
     requires { ⌜ k < mostLinked ⌝ }
     requires { ⌜ mostLinked + key < length (now links) ⌝ }
     ensures { λ _. ⌜ now (links .exit) ≡ rowLinked (now (links .entry)) key k ⌝ }

@@ -1,7 +1,7 @@
 //! The offer capping engine as Rust programs call it: check three files, study files on a fresh day or on one that goes on, look
 //! at the choice for one unit before, release a unit, hand a file back tidy, test one supplier. The engine keeps nothing, and a day
 //! is its caller's own, so threads may call at the same time. A call takes up to 136 KiB of stack, and one with
-//! curves up to 304 KiB.
+//! curves up to 328 KiB.
 //!
 //! ```
 //! use capping::Files;

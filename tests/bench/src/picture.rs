@@ -58,7 +58,7 @@ struct Plot {
 /// The picture of what was measured.
 pub fn draw(engines: &[Engine], measured: &[Measured]) -> String {
     let plain: Vec<&Measured> = measured.iter().filter(|one| one.study.layout == Layout::Plain).collect();
-    let curves: Vec<&Measured> = measured.iter().filter(|one| one.study.layout.has_curves()).collect();
+    let curves: Vec<&Measured> = measured.iter().filter(|one| one.study.layout.has_whole_curves()).collect();
     let lines = [lines(engines, &plain), lines(engines, &curves)].concat();
     let mut plot = Plot::around(&lines);
     plot.frame(&[plain, curves].concat());
@@ -72,7 +72,7 @@ pub fn draw(engines: &[Engine], measured: &[Measured]) -> String {
 /// The lines through the studies of a layout, in the legend's order.
 fn lines(engines: &[Engine], measured: &[&Measured]) -> Vec<Line> {
     let study = measured[0].study;
-    let curves = study.layout.has_curves();
+    let curves = study.layout.has_whole_curves();
     let behind = if curves { ", curves" } else { "" };
     let mut lines = Vec::new();
     for (index, engine) in engines.iter().enumerate() {

@@ -86,7 +86,8 @@ fn growth_in_layout(engines: &[Engine], sizes: &[Measured]) -> String {
         format!("{:>12}", format!("{}-{}", from.study.rows(), to.study.rows()))
     });
     for (index, engine) in engines.iter().enumerate() {
-        for call in Call::ALL.into_iter().filter(|&call| engine.makes(call, sizes[0].study)) {
+        let makes_all = |&call: &Call| sizes.iter().all(|one| engine.makes(call, one.study));
+        for call in Call::ALL.into_iter().filter(makes_all) {
             table += &line(format!("  {} {}", engine.name, call.name()), &|from, to| {
                 format!("{:>12.2}", power(index, call, from, to))
             });

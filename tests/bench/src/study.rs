@@ -1,7 +1,8 @@
 //! The studies: markets made up from a seed as real ones are, of several sizes and in three layouts, and the largest
-//! with parents, with the longest schedules and with curves of several sizes. A unit has a few segments of rising cost,
-//! a market-based schedule beside its cost-based ones, and some distance to the constraint. The relief is such that
-//! suppliers pass and fail, as far as there are enough of them.
+//! with parents, with the longest schedules and with curves of several sizes, in two orders and with numbers picked
+//! against the engine's links. A unit has a few segments of rising cost, a market-based schedule beside its cost-based
+//! ones, and some distance to the constraint. The relief is such that suppliers pass and fail, as far as there are
+//! enough of them.
 
 use std::collections::BTreeMap;
 use std::fmt::{self, Display, Formatter};
@@ -30,6 +31,11 @@ const SUPPLIERS_OF_A_GROUP: usize = 2;
 /// Points of each schedule row of the largest study, by the sizes of its curves; with the last there are 4,096, the most
 /// that there may be.
 const POINTS_OF_A_ROW: [u64; 3] = [1, 2, 4];
+
+/// The key that all schedules have whose numbers are picked against the engine's links, of so many (`crates/links`).
+const KEY: u64 = 7;
+const KEYS: u64 = 2_039;
+const KEYS_OF_A_UNIT: u64 = 128;
 
 /// The largest number of a supplier.
 const LAST_SUPPLIER: u64 = 999;
@@ -65,6 +71,10 @@ pub enum Layout {
     Longest,
     /// Unit by unit, no field quoted, and beside them a curve of so many points for each schedule row.
     Curves(u64),
+    /// The same, but the curves take turns: the first point of each, then the second of each.
+    Turns(u64),
+    /// The same, and a schedule of one key for each unit.
+    OneKey(u64),
 }
 
 impl Layout {
@@ -79,10 +89,13 @@ impl Layout {
             Layout::Affiliated => "parents",
             Layout::Longest => "longest",
             Layout::Curves(_) => "curves",
+            Layout::Turns(_) => "by turns",
+            Layout::OneKey(_) => "one key",
         }
     }
 
-    pub fn has_curves(self) -> bool {
+    /// Whether there are curves, point behind point.
+    pub fn has_whole_curves(self) -> bool {
         matches!(self, Layout::Curves(_))
     }
 }
@@ -106,8 +119,12 @@ pub struct Study {
 pub fn make_all() -> Vec<Study> {
     let sizes = |layout| SUPPLY_ROWS.map(|supply_rows| Study::make(supply_rows, layout));
     let largest = [Layout::Affiliated, Layout::Longest].map(|layout| Study::make(MOST_SUPPLY_ROWS, layout));
-    let curves = POINTS_OF_A_ROW.map(|points| Study::make(MOST_SUPPLY_ROWS, Layout::Curves(points)));
-    Layout::ALONE.into_iter().flat_map(sizes).chain(largest).chain(curves).collect()
+    let curved = |layout: fn(u64) -> Layout| {
+        POINTS_OF_A_ROW.map(|points| Study::make(MOST_SUPPLY_ROWS, layout(points)))
+    };
+    let curves = [Layout::Curves, Layout::Turns].into_iter().flat_map(curved);
+    let keyed = [Study::make(MOST_SUPPLY_ROWS, Layout::OneKey(0))].into_iter().chain(curved(Layout::OneKey));
+    Layout::ALONE.into_iter().flat_map(sizes).chain(largest).chain(curves).chain(keyed).collect()
 }
 
 impl Study {
@@ -124,7 +141,12 @@ impl Study {
             }
             Layout::Affiliated => affiliate(&mut filing, random),
             Layout::Longest => lengthen(&mut filing),
-            Layout::Curves(of_a_row) => points = make_points(&filing.schedules, of_a_row, random),
+            Layout::Curves(of_a_row) => points = make_points(&filing.schedules, of_a_row, random).concat(),
+            Layout::Turns(of_a_row) => points = by_turns(make_points(&filing.schedules, of_a_row, random)),
+            Layout::OneKey(of_a_row) => {
+                share_a_key(&mut filing);
+                points = by_turns(make_points(&filing.schedules, of_a_row, random));
+            }
         }
         Study::of(&filing, &points, layout)
     }
@@ -141,9 +163,9 @@ impl Study {
             Layout::Affiliated => written(Sheet::parents(&filing.parents)),
             _ => Vec::new(),
         };
-        let curves = match layout {
-            Layout::Curves(_) => [CURVES_HEADER, &points.concat()].concat().into_bytes(),
-            _ => Vec::new(),
+        let curves = match points {
+            [] => Vec::new(),
+            _ => [CURVES_HEADER, &points.concat()].concat().into_bytes(),
         };
         let last_unit = filing.units().into_iter().max().unwrap_or_default();
         let tidy_schedules = Sheet::schedules(&filing.schedules).join(|_| false);
@@ -219,16 +241,47 @@ fn affiliate(filing: &mut Filing, random: &mut Random) {
 
 /// The points of a curve for each schedule row, as records. They rise in even steps of mw and price, and the last has
 /// ecomin, at another price than the row's own.
-fn make_points(rows: &[Schedule], of_a_row: u64, random: &mut Random) -> Vec<String> {
-    let mut records = Vec::new();
-    for &Schedule { unit, schedule, hour, ecomin, price, .. } in rows {
+fn make_points(rows: &[Schedule], of_a_row: u64, random: &mut Random) -> Vec<Vec<String>> {
+    let mut curve = |&Schedule { unit, schedule, hour, ecomin, price, .. }: &Schedule| {
         let highest = price * random.between(90, 115) / 100;
-        for nth in 1..=of_a_row {
+        let point = |nth| {
             let (mw, price) = (ecomin * nth / of_a_row, highest * nth / of_a_row);
-            records.push(format!("{unit},{schedule},{hour},{mw},{price}\r\n"));
-        }
+            format!("{unit},{schedule},{hour},{mw},{price}\r\n")
+        };
+        (1..=of_a_row).map(point).collect()
+    };
+    rows.iter().map(&mut curve).collect()
+}
+
+/// The points of curves of one length: the first of each, then the second of each.
+fn by_turns(curves: Vec<Vec<String>>) -> Vec<String> {
+    let turns = curves.first().map_or(0, Vec::len);
+    (0..turns).flat_map(|nth| curves.iter().map(move |curve| curve[nth].clone())).collect()
+}
+
+/// Gives each unit another number, and its rows to one schedule, such that all schedules have one key in the engine's
+/// links.
+fn share_a_key(filing: &mut Filing) {
+    let keyed = |unit| {
+        (1..100)
+            .find(|schedule| (unit * KEYS_OF_A_UNIT + schedule) % KEYS == KEY)
+            .map(|schedule| (unit, schedule))
+    };
+    let numbers: BTreeMap<u64, (u64, u64)> =
+        filing.units().into_iter().zip((1..10_000).filter_map(keyed)).collect();
+    for row in &mut filing.supply {
+        row.unit = numbers[&row.unit].0;
     }
-    records
+    let mut first = filing.schedules[0];
+    for (index, row) in filing.schedules.iter_mut().enumerate() {
+        if row.unit != first.unit {
+            first = *row;
+        }
+        let (unit, schedule) = numbers[&row.unit];
+        let hour = HOUR + index as u64 % (HOURS - HOUR);
+        let Schedule { kind, startup, minrun, .. } = first;
+        *row = Schedule { unit, schedule, kind, hour, startup, minrun, ..*row };
+    }
 }
 
 /// Makes every field of the schedules as long as it may be: the units have numbers of four digits then, and two
@@ -339,6 +392,27 @@ mod tests {
         for study in studies {
             assert_eq!(read(&study).schedules.len(), 1_024);
         }
+    }
+
+    #[test]
+    fn curves_that_take_turns_have_the_points_of_those_that_do_not() {
+        let sorted = |layout| {
+            let mut curves = read(&Study::make(256, layout)).curves;
+            curves.sort_by_key(|point| (point.unit, point.schedule, point.hour, point.mw));
+            curves
+        };
+        assert_eq!(sorted(Layout::Turns(4)), sorted(Layout::Curves(4)));
+        let turns = read(&Study::make(256, Layout::Turns(4))).curves;
+        assert!(turns
+            .windows(2)
+            .all(|pair| (pair[0].schedule, pair[0].hour) != (pair[1].schedule, pair[1].hour)));
+    }
+
+    #[test]
+    fn all_schedules_of_one_key_have_it() {
+        let filing = read(&Study::make(256, Layout::OneKey(4)));
+        assert_eq!((filing.units().len(), filing.schedules.len(), filing.curves.len()), (64, 1_024, 4_096));
+        assert!(filing.schedules.iter().all(|row| (row.unit * 128 + row.schedule) % 2_039 == 7));
     }
 
     #[test]

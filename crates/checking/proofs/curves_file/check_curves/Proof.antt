@@ -27,13 +27,13 @@ hold-points-requires : tie.Need-hold-points-requires
 hold-points-requires c κs = let pre = c .before .before .before .before .before .before .before .before .before .before .before .pre in (curves-cells _ _ _ _ (some-bytes Curves _ (pre .0)) (c .before .before .before .before .before .before .read .ensures) _ (c .before .before .before .reading2 .given .1) (omega (arith, curves-room)), pre .1)
 
 returns : tie.Need-returns
-returns c = curves-unread _ _ _ _ (some-bytes Curves _ (c .before .before .before .before .before .before .before .before .before .pre .0)) (c .before .before .before .before .read .ensures) _ _ _ (c .before .reading .given .1)
+returns c = curves-unread _ _ _ _ (some-bytes Curves _ (c .before .before .before .before .before .before .before .before .before .pre .0)) (c .before .before .before .before .read .ensures) _ _ (c .before .reading .given .1)
 
 same-length : tie.Need-same-length
 same-length c = search needs
 
 returns-2 : tie.Need-returns-2
-returns-2 c = curves-passed _ _ _ _ (some-bytes Curves _ (c .before .before .before .before .before .before .before .before .before .before .before .before .before .before .pre .0)) (c .before .before .before .before .before .before .before .before .before .read .ensures) _ (c .before .before .before .before .before .before .reading2 .given .1) _ _ _ _ _ (c .before .before .hold-points .ensures)
+returns-2 c = curves-passed _ _ _ _ (some-bytes Curves _ (c .before .before .before .before .before .before .before .before .before .before .before .before .before .before .pre .0)) (c .before .before .before .before .before .before .before .before .before .read .ensures) _ (c .before .before .before .before .before .before .reading2 .given .1) _ _ _ _ (c .before .before .hold-points .ensures)
 
 pub check-curves-spec : {M : Type 1} → statement M
 check-curves-spec =

@@ -20,13 +20,13 @@ same-length : tie.Need-same-length
 same-length c = search needs
 
 returns : tie.Need-returns
-returns c = rows-not-known _ _ _ _ _ _ _ (c .before .before .before .hold-to .ensures) (c .before .known .given .1)
+returns c = rows-not-known _ _ _ _ _ _ (c .before .before .before .hold-to .ensures) (c .before .known .given .1)
 
 same-length-2 : tie.Need-same-length-2
 same-length-2 c = search needs
 
 returns-2 : tie.Need-returns-2
-returns-2 c = rows-known _ _ _ _ _ _ _ (c .before .before .before .before .before .before .hold-to .ensures) (c .before .before .before .before .enum-told .given .1) _ _ (c .before .before .hold-priced .ensures)
+returns-2 c = rows-known _ _ _ _ _ _ (c .before .before .before .before .before .before .hold-to .ensures) (c .before .before .before .before .enum-told .given .1) _ _ (c .before .before .hold-priced .ensures)
 
 pub hold-spec : {M : Type 1} → statement M
 hold-spec =

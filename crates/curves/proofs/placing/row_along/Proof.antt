@@ -1,6 +1,7 @@
 -- The row of a point, along the rows of its schedule's key. Assumes nothing.
 use mathlib.Core.Path.{sym, _∙_}
 use native.Mathlib.Omega.{arith}
+use borrow.Author.Needs.{needs}
 use Rattle.links.specs.promises.Links.{Along}
 use Rattle.links.proofs.LinkLaws.{along-less, along-next}
 use Rattle.curves.proofs.PlacingLaws.{at, along-point, found-along, found-none}
@@ -8,10 +9,10 @@ use Rattle.curves.proofs.placing.row_along.Statement.{statement}
 use Rattle.curves.proofs.placing.row_along.Tie as tie
 
 abbrev Inv-loop : tie.InvT-loop
-Inv-loop points i cells n by-schedule key left₀ left = Along (at points i n cells) n by-schedule left
+Inv-loop points i cells n numbers links unit key left₀ left = Along (at points i n cells) n links left
 
 abbrev μ-loop : tie.MeasureT-loop
-μ-loop points i cells n by-schedule key left₀ left = left
+μ-loop points i cells n numbers links unit key left₀ left = left
 
 cell-requires : tie.Need-cell-requires Inv-loop μ-loop
 cell-requires c κs = omega arith
@@ -19,17 +20,17 @@ cell-requires c κs = omega arith
 cell-requires-2 : tie.Need-cell-requires-2 Inv-loop μ-loop
 cell-requires-2 c κs = omega arith
 
-schedule-key-requires : tie.Need-schedule-key-requires Inv-loop μ-loop
-schedule-key-requires c κs = omega arith
+own-key-requires : tie.Need-own-key-requires Inv-loop μ-loop
+own-key-requires c κs = search needs
 
 add-link-at : tie.Need-add-link-at Inv-loop μ-loop
 add-link-at c = omega arith
 
 link-at-requires : tie.Need-link-at-requires Inv-loop μ-loop
-link-at-requires c κs = omega (arith, c .before .before .before .before .before .before .pre .1 .1 .room)
+link-at-requires c κs = omega (arith, c .before .before .before .before .before .before .before .pre .1 .1 .1 .room, c .own-key .ensures .1)
 
 loop-holds : tie.Need-loop-holds Inv-loop μ-loop
-loop-holds c = let key = c .before .schedule-key .ensures in let a = c .before .before .before .before .before .before .before .args in rw (c .link-at .ensures) (along-point (a .points .now) (a .i) _ (a .cells .now) _ _ _ _ (c .before .before .before .before .before .before .before .pre .1 .1) (c .before .before .before .cell .ensures) (c .before .before .cell2 .ensures) (key .0) (key .1))
+loop-holds c = let key = c .before .own-key .ensures in let a = c .before .before .before .before .before .before .before .before .args in rw (c .link-at .ensures) (along-point (a .points .now) (a .i) _ (a .cells .now) (a .numbers .now) _ _ _ _ (c .before .before .before .before .before .before .before .before .pre .1 .1 .1) (c .before .before .before .cell .ensures) (c .before .before .cell2 .ensures) (key .0) (key .1))
 
 sub-is-of : tie.Need-sub-is-of Inv-loop μ-loop
 sub-is-of c = omega arith
@@ -63,7 +64,7 @@ row-along-spec =
     μ-loop
     cell-requires
     cell-requires-2
-    schedule-key-requires
+    own-key-requires
     add-link-at
     link-at-requires
     loop-holds

@@ -12,7 +12,7 @@ is-of-requires : tie.Need-is-of-requires
 is-of-requires c κs = search needs
 
 returns : tie.Need-returns
-returns c = found-there _ _ _ _ _ (c .before .before .before .before .before .before .pre .1 .1 .1) (c .before .before .if1 .taken) (sym (c .before .is-of .ensures) ∙ c .if2 .taken)
+returns c = found-there _ _ _ _ _ (c .before .before .before .before .before .before .before .pre .1 .1 .1 .1) (c .before .before .if1 .taken) (sym (c .before .is-of .ensures) ∙ c .if2 .taken)
 
 row-along-requires : tie.Need-row-along-requires
 row-along-requires c κs = search needs

@@ -12,7 +12,7 @@ use borrow.Author.Tests.{eq-eqb, ne-eqb}
 use Rattle.base.specs.Search.{those}
 use Rattle.base.proofs.Tests.{eq-or-ne}
 use Rattle.offers.specs.Offer.{capped}
-use Rattle.tables.specs.Table.{highestCost}
+use Rattle.tables.specs.Table.{highestEcomin, highestCost}
 use Rattle.hours.specs.Hours.{inRun}
 use Rattle.links.specs.promises.Links.{mostLinked, Linked, scheduleKeys, scheduleKey}
 use Rattle.links.proofs.LinkLaws.{Walk, down, down-more, walk-key, walk-step}
@@ -25,7 +25,7 @@ use Rattle.cells.specs.promises.Views.{scheduleAt}
 use Rattle.cells.proofs.RowViews.{schedule-length}
 use Rattle.schedules.specs.Schedules.{own}
 use Rattle.schedules.proofs.SearchLaws.{rows-down}
-use Rattle.choice.specs.Cost.{offerPrice, price, hourCost, inItsRun, share, runCost}
+use Rattle.choice.specs.Cost.{offerPrice, price, hourCost, mostHour, inItsRun, share, runCost}
 use Rattle.choice.specs.promises.Ranges.{ScheduleCells}
 use Rattle.choice.specs.promises.Steps.{ownShare}
 
@@ -34,12 +34,8 @@ unfolding offerPrice capped
 offer-small M listed h = omega arith
 offer-small C listed h = omega arith
 
--- the most that an hour costs
-abbrev pub mostHour : ℕ
-mostHour = 100000 * highestCost + 10 * 100000000
-
 module _ (row : ScheduleRow) (r : PermittedSchedule row) where
-  pub output-small : row .ecomin * price row ≤ 100000 * highestCost
+  pub output-small : row .ecomin * price row ≤ highestEcomin * highestCost
   unfolding price
   output-small = mul-le-mul (r .ecomin) (offer-small (kindOf (row .kind)) (row .price) (r .price))
 

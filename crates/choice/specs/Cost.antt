@@ -7,6 +7,7 @@ use mathlib.Core.List.{List, [], _∷_}
 use lib.Dec.{eqb}
 use Rattle.offers.specs.Offer.{capped}
 use Rattle.hours.specs.Hours.{inRun}
+use Rattle.tables.specs.Table.{highestEcomin, highestCost}
 use Rattle.tables.specs.Rows.{ScheduleRow, kindOf}
 use Rattle.tables.specs.declared.files.Kind.{Kind}
 use Rattle.tables.specs.declared.files.Kind.the-variants.{M, C}
@@ -23,6 +24,10 @@ price row = offerPrice (kindOf (row .kind)) (row .price)
 -- "The cost of an hour is ecomin × offer price + 10 × noload, in tenths of a cent."
 unfoldable pub hourCost : ScheduleRow → ℕ
 hourCost row = row .ecomin * price row + 10 * row .noload
+
+-- the most that it can be, by the ranges of the columns
+abbrev pub mostHour : ℕ
+mostHour = highestEcomin * highestCost + 10 * 100000000
 
 -- "A running unit's schedule costs the hour h alone."
 unfoldable pub runningCost : ScheduleRow → ℕ

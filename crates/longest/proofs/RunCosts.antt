@@ -16,9 +16,9 @@ use Rattle.tables.specs.promises.Ranges.{PermittedSchedule}
 use Rattle.tables.specs.Rows.{ScheduleRow}
 use Rattle.schedules.specs.Schedules.{scheduleOdds, schedulesAtOdds, own}
 use Rattle.schedules.proofs.OddsLaws.{odds-hours}
-use Rattle.choice.specs.Cost.{hourCost, runningCost, inItsRun, share, runCost, startingCost, cost}
+use Rattle.choice.specs.Cost.{hourCost, mostHour, runningCost, inItsRun, share, runCost, startingCost, cost}
 use Rattle.choice.proofs.CostLaws.{hour-small}
-use Rattle.longest.specs.Longest.{mostHour, mostCost}
+use Rattle.longest.specs.Longest.{mostCost}
 use Rattle.base.proofs.SearchLaws.{odds-none}
 
 -- what the rows that pass a test cost

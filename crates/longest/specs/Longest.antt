@@ -3,20 +3,17 @@
 use Prim.Native.Nat.{ℕ, suc, _+_, _*_}
 use lib.ListN.{length, replicate}
 use Rattle.hours.specs.Hours.{lastHour}
-use Rattle.tables.specs.Table.{table, C, highestSupplier, highestCost}
+use Rattle.tables.specs.Table.{table, C, highestSupplier}
 use Rattle.tables.specs.declared.answer.AnswerRow.{AnswerRow}
 use Rattle.tables.specs.declared.files.File.the-variants.{Supply}
 use Rattle.supply.specs.Supply.{mostUnits}
+use Rattle.choice.specs.Cost.{mostHour}
 use Rattle.pivotal.specs.Test.{F, verdictLetter}
 use Rattle.outcome.specs.Answer.{answerText}
 
 -- the most that can be left: as many rows as supply may have, each with the highest mw × |dfax|
 abbrev pub mostLeft : ℕ
 mostLeft = table Supply .mostRows * (100000 * 10000)
-
--- the most that an hour can cost: ecomin × offer price + 10 × noload
-abbrev pub mostHour : ℕ
-mostHour = 100000 * highestCost + 10 * 100000000
 
 -- the most that a schedule can cost: every hour of the day, and 10 × startup
 abbrev pub mostCost : ℕ

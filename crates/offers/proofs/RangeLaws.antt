@@ -16,6 +16,10 @@ use Rattle.offers.specs.Supply.{absDfax, supply, totalSupply, offer, cos
 abbrev pub mostSupply : ℕ
 mostSupply = 10 ^ 9
 
+-- the highest cost of a row beside another
+abbrev pub mostBeside : ℕ
+mostBeside = ceiling * 10000
+
 module _ (r : SupplyRow) (p : PermittedSupply r) where
   pub abs-small : absDfax r ≤ 10000
   unfolding absDfax magnitude
@@ -29,11 +33,11 @@ offer-small : (r : SupplyRow) → offer r ≤ ceiling
 unfolding offer capped
 offer-small r = omega arith
 
-beside-most : (q r : SupplyRow) → PermittedSupply q → costBeside q r ≤ 2 * 10 ^ 9
+beside-most : (q r : SupplyRow) → PermittedSupply q → costBeside q r ≤ mostBeside
 unfolding costBeside
 beside-most q r p = mul-le-mul (offer-small r) (abs-small q p)
 
-pub beside-small : (q r : SupplyRow) (x : ℕ) → PermittedSupply q → x ≡ costBeside q r → x ≤ 2 * 10 ^ 9
+pub beside-small : (q r : SupplyRow) (x : ℕ) → PermittedSupply q → x ≡ costBeside q r → x ≤ mostBeside
 beside-small q r x p e = omega (arith, beside-most q r p)
 
 pub part-small : (t : Bool) (s : ℕ) → s ≤ mostSupply → cond t s 0 ≤ mostSupply

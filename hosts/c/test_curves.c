@@ -64,7 +64,7 @@ static const struct study_beside refused[] = {
     {{CURVES "11,100,5,100,2000\r\n", ""}, {"schedule 100", ENOUGH, "", {3, 4, 1}, STARRED}},
     {{CURVES "11,2,24,100,2000\r\n", ""}, {"hour 24", ENOUGH, "", {3, 4, 1}, STARRED}},
     {{CURVES "11,2,5,100001,2000\r\n", ""}, {"mw 100001", ENOUGH, "", {3, 4, 1}, STARRED}},
-    {{CURVES "11,2,5,100,200001\r\n", ""}, {"price 200001", ENOUGH, "", {3, 4, 1}, STARRED}},
+    {{CURVES "11,2,5,100,370001\r\n", ""}, {"price 370001", ENOUGH, "", {3, 4, 1}, STARRED}},
     {{CURVES "15,1,5,100,2000\r\n", ""}, {"a point of unit 15", ENOUGH, "", {32, 4, 1}, STARRED}},
     {{CURVES "11,3,5,100,2000\r\n", ""}, {"a point of schedule 3", ENOUGH, "", {32, 4, 1}, STARRED}},
     {{CURVE_11 "11,2,6,100,2000\r\n", ""}, {"a point of hour 6", ENOUGH, "", {32, 4, 3}, STARRED}},

@@ -28,10 +28,10 @@
 #define RELIEF_499 {CONSTRAINT "5,499,300\r\n", STARRED_SUPPLY, STARRED_SCHEDULES}
 #define RELIEF_1501 {CONSTRAINT "5,1501,300\r\n", STARRED_SUPPLY, STARRED_SCHEDULES}
 
-/* Fields as large as they may be: 100000 tenths of a MW at the ceiling of 200000, with no-load and startup ten times each. */
+/* Fields as large as they may be: 100000 tenths of a MW at 370000, with no-load and startup ten times each. */
 #define LARGEST \
-    {CONSTRAINT "23,1000000,10000\r\n", SUPPLY "9999,999,100000,200000,-10000\r\n", \
-     SCHEDULES "9999,99,C,23,100000,200000,100000000,100000000,24\r\n"}
+    {CONSTRAINT "23,1000000,10000\r\n", SUPPLY "9999,999,100000,370000,-10000\r\n", \
+     SCHEDULES "9999,99,C,23,100000,370000,100000000,100000000,24\r\n"}
 
 #define NO_14_ON_COST {HOUR_5, STARRED_SUPPLY, UNIT_14_MARKET_ONLY}
 #define UNIT_15_IN_SCHEDULES {HOUR_5, STARRED_SUPPLY, STARRED_SCHEDULES "15,1,C,5,1,1,1,1,1\r\n"}
@@ -77,7 +77,7 @@ static const struct day_preview accepted[] = {
     {"-", {"unit 14 passes", NONE, 14, {14, 4, 'P', 5000000, 1, 'M', 500000}, {0, 0, 0}, RELIEF_499}},
     {"-", {"unit 14 can't be tested", NONE, 14, {14, 4, 'U', 0, 1, 'M', 500000}, {0, 0, 0}, RELIEF_1501}},
     {"-", {"unit 11 can't be tested", NONE, 11, {11, 1, 'U', 0, 2, 'C', 1030000}, {0, 0, 0}, RELIEF_1501}},
-    {"23;", {"the largest fields", NONE, 9999, {9999, 999, 'U', 0, 99, 'C', 22000000000}, {0, 0, 0}, LARGEST}},
+    {"23;", {"the largest fields", NONE, 9999, {9999, 999, 'U', 0, 99, 'C', 39000000000}, {0, 0, 0}, LARGEST}},
 };
 
 static const struct day_preview refused[] = {

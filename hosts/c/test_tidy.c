@@ -90,7 +90,7 @@ static const char *longest_supply(unsigned rows) {
     static char text[2 * CAPPING_LONGEST_TIDY_SUPPLY];
     size_t at = (size_t)snprintf(text, sizeof text, "%s", SUPPLY);
     for (unsigned row = 0; row < rows; row++)
-        at += (size_t)snprintf(text + at, sizeof text - at, "%u,%u,100000,200000,-10000\r\n", 9999 - row % 64, 999 - row % 32);
+        at += (size_t)snprintf(text + at, sizeof text - at, "%u,%u,100000,370000,-10000\r\n", 9999 - row % 64, 999 - row % 32);
     return text;
 }
 
@@ -98,7 +98,7 @@ static const char *longest_schedules(unsigned rows) {
     static char text[2 * CAPPING_LONGEST_TIDY_SCHEDULES];
     size_t at = (size_t)snprintf(text, sizeof text, "%s", SCHEDULES);
     for (unsigned row = 0; row < rows; row++)
-        at += (size_t)snprintf(text + at, sizeof text - at, "%u,99,M,%u,100000,200000,100000000,100000000,24\r\n",
+        at += (size_t)snprintf(text + at, sizeof text - at, "%u,99,M,%u,100000,370000,100000000,100000000,24\r\n",
                                9999 - row / 14, 10 + row % 14);
     return text;
 }

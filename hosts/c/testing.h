@@ -17,12 +17,12 @@
 #define ANSWER_HEADER "unit,supplier,verdict,left,schedule,kind,cost\r\n"
 #define HOUR_5 CONSTRAINT "5,1000,300\r\n"
 
-/* The starred example of document 01, its schedules but for the last, its answer, and the day after it. */
+/* The starred example of document 01, its schedules of two units and all but for the last, its answer, and the day after it. */
 #define STARRED_SUPPLY SUPPLY "11,1,1000,3000,5000\r\n12,2,1000,3000,-5000\r\n13,3,1000,4000,5000\r\n14,4,2000,2000,200\r\n"
-#define UNIT_14_MARKET_ONLY \
+#define UNITS_11_AND_12 \
     SCHEDULES "11,1,M,5,100,4000,50000,20000,1\r\n11,2,C,5,100,3000,50000,20000,1\r\n" \
-              "12,1,M,5,100,3300,0,0,1\r\n12,2,C,5,100,3000,0,0,1\r\n13,1,C,5,200,4000,0,1000,1\r\n" \
-              "14,1,M,5,100,5000,0,0,1\r\n"
+              "12,1,M,5,100,3300,0,0,1\r\n12,2,C,5,100,3000,0,0,1\r\n"
+#define UNIT_14_MARKET_ONLY UNITS_11_AND_12 "13,1,C,5,200,4000,0,1000,1\r\n14,1,M,5,100,5000,0,0,1\r\n"
 #define STARRED_SCHEDULES UNIT_14_MARKET_ONLY "14,2,C,5,100,2000,0,0,1\r\n"
 #define STARRED_ANSWER \
     ANSWER_HEADER "11,1,F,0,2,C,1030000\r\n12,2,F,0,1,M,330000\r\n13,3,F,0,1,C,890000\r\n14,4,F,5000000,1,M,500000\r\n"

@@ -214,9 +214,9 @@ class Tidy(Case):
             capping.tidy("supply", SUPPLY, room=-1)
 
     def test_longest(self):
-        supply = (b"%d,%d,100000,200000,-10000\r\n" % (9999 - row % 64, 999 - row % 32) for row in range(256))
+        supply = (b"%d,%d,100000,370000,-10000\r\n" % (9999 - row % 64, 999 - row % 32) for row in range(256))
         hours = ((9999 - row // 14, 10 + row % 14) for row in range(1024))
-        schedules = (b"%d,99,C,%d,100000,200000,100000000,100000000,24\r\n" % row for row in hours)
+        schedules = (b"%d,99,C,%d,100000,370000,100000000,100000000,24\r\n" % row for row in hours)
         for number, file, content in (
             (1, "constraint", CONSTRAINT + b"23,1000000,10000\r\n"),
             (2, "supply", SUPPLY + b"".join(supply)),

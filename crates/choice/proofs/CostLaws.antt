@@ -11,7 +11,7 @@ use lib.ListN.{length, getD}
 use borrow.Author.Tests.{eq-eqb, ne-eqb}
 use Rattle.base.specs.Search.{those}
 use Rattle.base.proofs.Tests.{eq-or-ne}
-use Rattle.offers.specs.Offer.{capped}
+use Rattle.offers.proofs.OfferLaws.{offer-small}
 use Rattle.tables.specs.Table.{highestEcomin, highestCost}
 use Rattle.hours.specs.Hours.{inRun}
 use Rattle.links.specs.promises.Links.{mostLinked, Linked, scheduleKeys, scheduleKey}
@@ -29,15 +29,15 @@ use Rattle.choice.specs.Cost.{offerPrice, price, hourCost, mostHour, inI
 use Rattle.choice.specs.promises.Ranges.{ScheduleCells}
 use Rattle.choice.specs.promises.Steps.{ownShare}
 
-offer-small : (k : Kind) (listed : ℕ) → listed ≤ highestCost → offerPrice k listed ≤ highestCost
-unfolding offerPrice capped
-offer-small M listed h = omega arith
-offer-small C listed h = omega arith
+price-small : (k : Kind) (listed : ℕ) → listed ≤ highestCost → offerPrice k listed ≤ highestCost
+unfolding offerPrice
+price-small M listed h = h
+price-small C listed h = offer-small listed h
 
 module _ (row : ScheduleRow) (r : PermittedSchedule row) where
   pub output-small : row .ecomin * price row ≤ highestEcomin * highestCost
   unfolding price
-  output-small = mul-le-mul (r .ecomin) (offer-small (kindOf (row .kind)) (row .price) (r .price))
+  output-small = mul-le-mul (r .ecomin) (price-small (kindOf (row .kind)) (row .price) (r .price))
 
   pub hour-small : hourCost row ≤ mostHour
   unfolding hourCost

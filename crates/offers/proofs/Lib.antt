@@ -1,3 +1,4 @@
 pub mod CellLaws
+pub mod OfferLaws
 pub mod RangeLaws
 pub mod SupplyLaws

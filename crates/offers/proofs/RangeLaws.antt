@@ -7,10 +7,11 @@ use mathlib.Core.Path.{_≡_, refl}
 use native.Mathlib.Omega.{arith}
 use native.Mathlib.Nat.{mul-le-mul}
 use lib.ListN.{length}
+use Rattle.tables.specs.Table.{highestCost}
 use Rattle.tables.specs.promises.Ranges.{PermittedSupply}
 use Rattle.tables.specs.Rows.{SupplyRow, magnitude}
-use Rattle.offers.specs.Offer.{capped, ceiling}
 use Rattle.offers.specs.Supply.{absDfax, supply, totalSupply, offer, costBeside}
+use Rattle.offers.proofs.OfferLaws.{offer-small}
 
 -- the most that one row supplies
 abbrev pub mostSupply : ℕ
@@ -18,7 +19,7 @@ mostSupply = 10 ^ 9
 
 -- the highest cost of a row beside another
 abbrev pub mostBeside : ℕ
-mostBeside = ceiling * 10000
+mostBeside = highestCost * 10000
 
 module _ (r : SupplyRow) (p : PermittedSupply r) where
   pub abs-small : absDfax r ≤ 10000
@@ -29,16 +30,16 @@ module _ (r : SupplyRow) (p : PermittedSupply r) where
   unfolding supply
   supply-small = mul-le-mul (p .mw) abs-small
 
-offer-small : (r : SupplyRow) → offer r ≤ ceiling
-unfolding offer capped
-offer-small r = omega arith
+  row-offer-small : offer r ≤ highestCost
+  unfolding offer
+  row-offer-small = offer-small (r .cost) (p .cost)
 
-beside-most : (q r : SupplyRow) → PermittedSupply q → costBeside q r ≤ mostBeside
+beside-most : (q r : SupplyRow) → PermittedSupply q → PermittedSupply r → costBeside q r ≤ mostBeside
 unfolding costBeside
-beside-most q r p = mul-le-mul (offer-small r) (abs-small q p)
+beside-most q r p t = mul-le-mul (row-offer-small r t) (abs-small q p)
 
-pub beside-small : (q r : SupplyRow) (x : ℕ) → PermittedSupply q → x ≡ costBeside q r → x ≤ mostBeside
-beside-small q r x p e = omega (arith, beside-most q r p)
+pub beside-small : (q r : SupplyRow) (x : ℕ) → PermittedSupply q → PermittedSupply r → x ≡ costBeside q r → x ≤ mostBeside
+beside-small q r x p t e = omega (arith, beside-most q r p t)
 
 pub part-small : (t : Bool) (s : ℕ) → s ≤ mostSupply → cond t s 0 ≤ mostSupply
 part-small true s h = h

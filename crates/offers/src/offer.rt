@@ -1,20 +1,20 @@
 // The capped offer of an incremental cost.
 ghost use mathlib.Core.Path.{_≡_};
-ghost use Prim.Native.Nat.{_≤_, min};
-ghost use Rattle.offers.specs.Offer.{capped as Offer·capped, ceiling};
-ghost use Rattle.tables.specs.Table.{highestCost};
+ghost use Prim.Native.Nat.{min};
+ghost use Rattle.offers.specs.Offer.{capped as Offer·capped};
 
 // A tenth of the cost is added to it, but not more than this.
 const MOST_ADDED: u64 = 10000;
 
-// No capped offer is higher.
+// No sum of a cost and what is added is higher, and to a higher cost nothing is added.
 const CEILING: u64 = 200000;
 
 pub fn capped(cost: u64) -> u64
-    requires { ⌜ cost ≤ highestCost ⌝ }
     ensures { λ r. ⌜ r ≡ Offer·capped cost ⌝ }
-    ensures { λ r. ⌜ r ≤ ceiling ⌝ }
 {
+    if cost > CEILING {
+        return cost;
+    }
     least(cost + least(cost / 10, MOST_ADDED), CEILING)
 }
 

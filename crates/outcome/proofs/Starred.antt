@@ -27,7 +27,7 @@ use Rattle.outcome.specs.Day.{freshDay}
 use Rattle.outcome.specs.Study.{decisionRefusal, answerFile}
 use Rattle.market.specs.Clearing.{eligibleSupply, needOf, short, eligibleUpTo, eligibleBelow, clears, clearing, clearingRow}
 use Rattle.offers.specs.Supply.{rowAt, absDfax, eligible, supply, totalSupply, offer, costBeside, atMost, below}
-use Rattle.offers.specs.Offer.{capped}
+use Rattle.offers.specs.Offer.{withAdder, capped}
 use Rattle.market.specs.Parties.{party, parties, relevantOf, amountOf, amounts}
 use Rattle.offers.specs.Relevant.{relevant}
 use Rattle.tables.proofs.Starred.{constraintFile, supplyFile, schedulesFile, starred·all}
@@ -64,7 +64,7 @@ unfolding total begun fed fedAll left pivotal tooLarge outOfBounds tested
 test·all = tt
 
 unfoldable market·all : Unit {0}
-unfolding capped magnitude absDfax eligible offer costBeside relevant supply totalSupply atMost below eligibleSupply needOf short eligibleUpTo eligibleBelow clears clearing rowAt clearingRow among party parties relevantOf amountOf amounts
+unfolding withAdder capped magnitude absDfax eligible offer costBeside relevant supply totalSupply atMost below eligibleSupply needOf short eligibleUpTo eligibleBelow clears clearing rowAt clearingRow among party parties relevantOf amountOf amounts
 market·all = tt
 
 unfoldable choice·all : Unit {0}
@@ -77,10 +77,11 @@ engine·all = tt
 
 -- "Capped offers: 0 gives 0; 9 gives 9; 10 gives 11; 99999 gives 109998; 100001 gives 110001; 190000, 195000 and 200000 each
 -- give 200000. Amounts 4, 3, 2, 1: the last has left 2, P at need 2, F at need 3. Amounts 5, 5: left 0, F at need 1. Same dfax,
--- clearing row at cost 91 (offer 100): cost 137 (150) is relevant, 138 (151) is not." And the example of "Answer file".
+-- clearing row at cost 91 (offer 100): cost 137 (150) is relevant, 138 (151) is not." And the example of "Answer file". And F-4's
+-- "200000 still gives 200000, and 200001 gives 200001".
 pub starred :
-    (map capped (0 ∷ 9 ∷ 10 ∷ 99999 ∷ 100001 ∷ 190000 ∷ 195000 ∷ 200000 ∷ [])
-    ≡ 0 ∷ 9 ∷ 11 ∷ 109998 ∷ 110001 ∷ 200000 ∷ 200000 ∷ 200000 ∷ [])
+    (map capped (0 ∷ 9 ∷ 10 ∷ 99999 ∷ 100001 ∷ 190000 ∷ 195000 ∷ 200000 ∷ 200001 ∷ [])
+    ≡ 0 ∷ 9 ∷ 11 ∷ 109998 ∷ 110001 ∷ 200000 ∷ 200000 ∷ 200000 ∷ 200001 ∷ [])
     × (tested (4 ∷ 3 ∷ 2 ∷ 1 ∷ []) 3 2 ≡ shows 2 P)
     × (tested (4 ∷ 3 ∷ 2 ∷ 1 ∷ []) 3 3 ≡ shows 2 F)
     × (tested (5 ∷ 5 ∷ []) 0 1 ≡ shows 0 F)

@@ -1,7 +1,7 @@
 -- Document 01, "Files": the one fixed table of the files, their headers, columns, permitted ranges and numbers of rows. And
 -- document 02, F-3: "A study's fourth file (curves.csv) `unit,schedule,hour,mw,price` brings at most .. 4096 rows; its mw ranges as
--- ecomin, its other columns as in the schedules", and F-6: "A study's fifth file (parents.csv) `supplier,parent`, at most 64 rows",
--- "both columns range as supplier does". Assumes nothing.
+-- ecomin, its other columns as in the schedules", F-4: "Cost and price now go to 370000", and F-6: "A study's fifth file (parents.csv)
+-- `supplier,parent`, at most 64 rows", "both columns range as supplier does". Assumes nothing.
 use Prim.Native.Nat.{ℕ}
 use Prim.Native.String.{String}
 use mathlib.Core.List.{List, [], _∷_, _++_, map}
@@ -51,7 +51,7 @@ abbrev pub highestEcomin : ℕ
 highestEcomin = 100000
 
 abbrev pub highestCost : ℕ
-highestCost = 200000
+highestCost = 370000
 
 -- the columns that files share, and that a day's numbers have; behind each its unit of measure
 abbrev pub hourColumn : Column

@@ -19,7 +19,7 @@ const HIGHEST_SUPPLIER: u64 = 999;
 
 const HIGHEST_ECOMIN: u64 = 100000;
 
-const HIGHEST_COST: u64 = 200000;
+const HIGHEST_COST: u64 = 370000;
 
 // A numeral.
 pub const NUMERAL: u8 = 0;

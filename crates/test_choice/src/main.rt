@@ -1,5 +1,6 @@
 // Cases of the choice of a schedule, from standard input, and a line for each: number, kind and cost.
-// The file `stdout` is what an independent peer answered, written from document 01 alone. A case is
+// The file `stdout` is what an independent peer answered, written from document 01 alone, and on prices
+// above 200000 what F-4 says, by hand. A case is
 //
 //     HOUR EXPOSED DAY
 //

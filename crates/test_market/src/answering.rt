@@ -12,9 +12,7 @@ use texts::after;
 use texts::first;
 use texts::same_text;
 
-// The largest cost and the largest relief.
-const COST: u64 = 200000;
-
+// The largest relief.
 const RELIEF: u64 = 1000000;
 
 // Room for more than the longest file of a case.
@@ -42,14 +40,6 @@ fn offer(number: &[u8]) {
         unreadable();
         return;
     };
-    print_offer(cost);
-}
-
-fn print_offer(cost: u64) {
-    if COST < cost {
-        unreadable();
-        return;
-    }
     print_number(b"", cost);
     print_number(b" ", offers::capped(cost));
     print(b"\n");

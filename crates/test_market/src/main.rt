@@ -1,6 +1,6 @@
 // Cases of the market and of the test of its suppliers, from standard input, and a line for each. The
 // file `stdout` is what an independent peer answered, written from document 01 alone with exact
-// fractions. A case is
+// fractions, and on costs above 200000 what F-4 says, by hand. A case is
 //
 //     offer COST                the capped offer
 //     market RELIEF CUTOFF      the market of the supply rows that follow, indented by two spaces

@@ -58,7 +58,8 @@ SUPPLIER = Column("supplier", 1, 999)
 SCHEDULE = Column("schedule", 1, 99)
 HOUR = Column("hour", 0, 23)
 ECOMIN = Column("ecomin", 0, 100000, "tenths of a MW")
-PRICE = Column("price", 0, 200000, "cents per MWh")
+HIGHEST_COST = 370000
+PRICE = Column("price", 0, HIGHEST_COST, "cents per MWh")
 
 CONSTRAINT = File(
     "constraint.csv",
@@ -72,7 +73,7 @@ SUPPLY = File(
         UNIT,
         SUPPLIER,
         Column("mw", 1, 100000, "tenths of a MW"),
-        Column("cost", 0, 200000, "cents per MWh"),
+        Column("cost", 0, HIGHEST_COST, "cents per MWh"),
         Column("dfax", -10000, 10000, "ten-thousandths", SIGNED),
     ),
 )

@@ -105,13 +105,13 @@ fn the_longest_files() {
     );
     let supply_row = |i: usize| {
         let (unit, supplier) = (9999 - i % 64, 999 - i % 32);
-        format!("{unit},{supplier},100000,200000,-10000\r\n")
+        format!("{unit},{supplier},100000,370000,-10000\r\n")
     };
     let supply: String = (0..256).map(supply_row).collect();
     expect_longest(File::Supply, &format!("{SUPPLY}{supply}"));
     let schedule_row = |i: usize| {
         let (unit, hour) = (9999 - i / 14, 10 + i % 14);
-        format!("{unit},99,C,{hour},100000,200000,100000000,100000000,24\r\n")
+        format!("{unit},99,C,{hour},100000,370000,100000000,100000000,24\r\n")
     };
     let schedules: String = (0..1024).map(schedule_row).collect();
     expect_longest(File::Schedules, &format!("{SCHEDULES}{schedules}"));

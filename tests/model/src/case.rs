@@ -57,7 +57,8 @@ impl ThreeFiles {
 pub struct StudyFiles(pub [Vec<u8>; 5]);
 
 impl StudyFiles {
-    /// Where schedules, curves and parents stand among them.
+    /// Where supply, schedules, curves and parents stand among them.
+    pub const SUPPLY: usize = 1;
     pub const SCHEDULES: usize = 2;
     pub const CURVES: usize = 3;
     pub const PARENTS: usize = 4;

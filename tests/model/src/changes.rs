@@ -77,8 +77,8 @@ fn neighbours(field: &[u8]) -> Vec<Vec<u8>> {
     }
 }
 
-/// Numbers that would be true of another member of the group, another removal, another schedule or another
-/// price.
+/// Numbers that would be true of another member of the group, another removal, another schedule, another
+/// price or another offer.
 fn elsewhere(column: usize, index: usize, judge: &Judge) -> BTreeSet<u64> {
     match column {
         SUPPLIER => judge.group(index).clone(),
@@ -193,6 +193,14 @@ mod tests {
         let judge = Judge::of(&bytes.files(), &Day::fresh()).unwrap();
         let changes = changed(b"header\r\n11,1,F,0,2,C,920000\r\n", &judge);
         assert!(changes.iter().any(|change| change == b"header\r\n11,1,F,0,2,C,1030000\r\n"));
+    }
+
+    #[test]
+    fn the_cost_with_the_ceiling_kept_is_among_the_changes() {
+        let bytes = Bytes::starred().with_curves(&["11,1,5,100,200002", "11,2,5,100,200001"]);
+        let judge = Judge::of(&bytes.files(), &Day::fresh()).unwrap();
+        let changes = changed(b"header\r\n11,1,F,0,2,C,20700100\r\n", &judge);
+        assert!(changes.iter().any(|change| change == b"header\r\n11,1,F,0,2,C,20700000\r\n"));
     }
 
     #[test]

@@ -15,6 +15,9 @@ use crate::table::{Kind, Point, Schedule, Supply};
 pub const UNITS: usize = 8;
 pub const SUPPLIERS: usize = 6;
 
+/// The ceiling on the sum of a cost and its adder: 2,000 dollars.
+const CEILING: u64 = 200_000;
+
 /// The header record of the fixed layout, with its end.
 const HEADER: &[u8] = b"unit,supplier,verdict,left,schedule,kind,cost\r\n";
 
@@ -45,6 +48,8 @@ struct Unit {
     schedules: Vec<Offered>,
     /// The same schedules by their price columns, as if there were no curves.
     schedules_by_column: Vec<Offered>,
+    /// The same schedules as if no cost-based offer went above the ceiling.
+    schedules_with_ceiling: Vec<Offered>,
     /// The eligible schedules where the unit is exposed, and where it isn't.
     eligible_exposed: Vec<Offered>,
     eligible_otherwise: Vec<Offered>,
@@ -137,11 +142,11 @@ impl Judge {
         hold(others.all(|other| comes_after(other, &row.schedule)), "another schedule comes before")
     }
 
-    /// The schedules of the unit in a row, priced with and without a regard for curves, for making up answers
-    /// that show another one.
+    /// The schedules of the unit in a row, priced with and without a regard for curves and with the ceiling on
+    /// every cost-based offer, for making up answers that show another one.
     pub fn schedules(&self, row: usize) -> Vec<Offered> {
-        let Unit { schedules, schedules_by_column, .. } = &self.units[row];
-        [&schedules[..], schedules_by_column].concat()
+        let Unit { schedules, schedules_by_column, schedules_with_ceiling, .. } = &self.units[row];
+        [&schedules[..], schedules_by_column, schedules_with_ceiling].concat()
     }
 
     /// What removals of a row leave, with and without a regard for groups, for making up answers that
@@ -170,7 +175,8 @@ impl Unit {
         let day_has = day.running.iter().find(|running| running.unit == number);
         let h = filing.constraint.hour;
         let own: Vec<Schedule> = filing.schedules.iter().filter(|row| row.unit == number).copied().collect();
-        let schedules = offered(&by_curves(&own, &filing.curves), h, day_has.is_some());
+        let found = by_curves(&own, &filing.curves);
+        let schedules = offered(&found, h, day_has.is_some());
         let on_cost = day_has.is_some_and(|running| running.kind == Kind::C);
         let groups = groups(filing);
         Unit {
@@ -185,6 +191,7 @@ impl Unit {
             eligible_otherwise: eligible_schedules(&schedules, on_cost, false),
             schedules,
             schedules_by_column: offered(&own, h, day_has.is_some()),
+            schedules_with_ceiling: offered(&with_ceiling(&found), h, day_has.is_some()),
         }
     }
 
@@ -254,9 +261,10 @@ fn least_common_multiple(a: u128, b: u128) -> u128 {
     a / divisor * b
 }
 
-/// Eleven tenths rounded down, at most 10000 more, and at most 200000.
+/// Eleven tenths rounded down, at most 10000 more, and at most the ceiling; but never less than the cost,
+/// which is the offer where it is above the ceiling itself.
 fn capped(cost: u64) -> u64 {
-    (cost * 11 / 10).min(cost + 10_000).min(200_000)
+    (cost * 11 / 10).min(cost + 10_000).min(CEILING).max(cost)
 }
 
 /// The groups that have a supplier of the supply file: each number is by itself at first, and each row
@@ -310,6 +318,15 @@ fn by_curves(rows: &[Schedule], points: &[Point]) -> Vec<Schedule> {
         row.price = cheapest.unwrap_or(row.price);
     }
     found
+}
+
+/// Rows whose cost-based offers are at most the ceiling.
+fn with_ceiling(rows: &[Schedule]) -> Vec<Schedule> {
+    let mut lowered = rows.to_vec();
+    for row in lowered.iter_mut().filter(|row| row.kind == Kind::C) {
+        row.price = row.price.min(CEILING);
+    }
+    lowered
 }
 
 /// The schedules of a unit, given by their rows, with their costs, by number.
@@ -380,6 +397,7 @@ fn read_numeral(text: &[u8]) -> Option<u64> {
 #[cfg(test)]
 mod tests {
     use super::*;
+    use crate::market;
     use crate::study::tests::Bytes;
 
     const STARRED: [&str; 6] = [
@@ -500,6 +518,39 @@ mod tests {
         assert_eq!(weigh([column_11, column_12], &of_12), not_so);
         assert_eq!(weigh([curve_11, column_12], &[]), not_so);
         assert_eq!(weigh([column_11, "12,2,F,0,1,M,400000"], &of_12), Err("another schedule comes before"));
+    }
+
+    /// The judge's capped offer, which is written otherwise than the model's, is the same.
+    #[test]
+    fn capped_offers_are_those_of_the_model() {
+        for cost in 0..=370_000 {
+            assert_eq!(capped(cost), market::capped(cost), "{cost}");
+        }
+    }
+
+    /// Unit 1 alone fails, and may take either kind: ecomin 10 at the offer price, and nothing else.
+    #[test]
+    fn costs_above_2000_dollars_are_judged_as_they_are() {
+        let weigh = |price_of_c: u64, price_of_m: u64, row: &str| {
+            let schedules = [("1", "M", price_of_m), ("2", "C", price_of_c)];
+            let schedules =
+                schedules.map(|(number, kind, price)| format!("1,{number},{kind},5,10,{price},0,0,1"));
+            let bytes =
+                Bytes::of("5,1,1", &["1,1,1000,200001,10"], &schedules.each_ref().map(String::as_str));
+            let judge = Judge::of(&bytes.files(), &Day::fresh()).unwrap();
+            judge.weigh([STARRED[0], row, ""].join("\r\n").as_bytes())
+        };
+        let of_c = |cost: u64| format!("1,1,F,0,2,C,{cost}");
+        assert_eq!(weigh(200_001, 200_002, &of_c(2_000_010)), Ok(()));
+        assert_eq!(weigh(370_000, 370_000, "1,1,F,0,1,M,3700000"), Ok(()));
+        assert_eq!(weigh(195_000, 200_000, "1,1,F,0,1,M,2000000"), Ok(()));
+        assert_eq!(weigh(195_000, 200_001, &of_c(2_000_000)), Ok(()));
+        let not_so = Err("not an eligible schedule with its kind and cost");
+        for other in [2_000_000, 2_100_010, 2_200_010] {
+            assert_eq!(weigh(200_001, 300_000, &of_c(other)), not_so, "{other}");
+        }
+        assert_eq!(weigh(195_000, 200_001, &of_c(1_950_000)), not_so);
+        assert_eq!(weigh(200_002, 200_001, &of_c(2_000_020)), Err("another schedule comes before"));
     }
 
     #[test]

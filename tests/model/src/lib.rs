@@ -1,5 +1,5 @@
-//! The offer capping engine, written down from document 01, with requests F-1, F-2, F-3 and F-6 of document
-//! 02, and from nothing else.
+//! The offer capping engine, written down from document 01, with requests F-1, F-2, F-3, F-4 and F-6 of
+//! document 02, and from nothing else.
 //!
 //! It is a model: every function says one sentence of the paper, nothing is tuned, and whoever
 //! doubts an engine can read here what the paper asks. The modules stand in the paper's order.
@@ -24,7 +24,8 @@
 //! What follows isn't in the paper: [`case`] reads and answers cases written as lines, [`judge`]
 //! weighs any answer by the words of demand 3, [`changes`] makes answers for it to reject,
 //! [`generator`] makes cases up, and [`tally`] counts what they reached, by [`grouping`] where suppliers
-//! are affiliated and by [`pricing`] where there are curves.
+//! are affiliated, by [`pricing`] where there are curves and by [`offering`] where costs or prices are
+//! around 2,000 dollars.
 //!
 //! Programs: `model` answers cases, and `generate SEED COUNT` prints them. `tests/compare` holds an
 //! engine against the model on them.
@@ -51,4 +52,5 @@ pub mod changes;
 pub mod generator;
 pub mod grouping;
 pub mod pricing;
+pub mod offering;
 pub mod tally;

@@ -5,10 +5,18 @@ use std::cmp::Ordering;
 use crate::rules::Filing;
 use crate::table::{Constraint, Supply};
 
+/// "Section 6.4.2 gives the adder, and the ceiling on the sum, only to 2,000 dollars" (document 02, F-4),
+/// which are so many cents, and are that ceiling too.
+pub const TWO_THOUSAND_DOLLARS: u64 = 200_000;
+
 /// "For an incremental cost c, the capped offer is c plus the lesser of c / 10 rounded down and
-/// 10000, but at most 200000 (6.4.2)."
+/// 10000, but at most 200000 (6.4.2)", and "above 200000 the capped offer is the incremental cost alone"
+/// (document 02, F-4).
 pub fn capped(c: u64) -> u64 {
-    (c + (c / 10).min(10_000)).min(200_000)
+    if c > TWO_THOUSAND_DOLLARS {
+        return c;
+    }
+    (c + (c / 10).min(10_000)).min(TWO_THOUSAND_DOLLARS)
 }
 
 /// "A supply row is eligible when |dfax| is at least cutoff."
@@ -35,8 +43,8 @@ pub fn need(constraint: &Constraint) -> u64 {
 /// an eligible row has one, so that |dfax| is never 0.
 #[derive(Clone, Copy, Debug)]
 pub struct EffectiveCost {
-    offer: u64,
-    dfax: u64,
+    pub offer: u64,
+    pub dfax: u64,
 }
 
 impl EffectiveCost {
@@ -92,7 +100,7 @@ fn performed(eligible: &[Supply], need: u64) -> bool {
 
 /// "The clearing cost is that of an eligible row such that eligible rows at or below it supply at
 /// least the need, and rows strictly below it supply less."
-fn clearing_cost(eligible: &[Supply], need: u64) -> EffectiveCost {
+pub fn clearing_cost(eligible: &[Supply], need: u64) -> EffectiveCost {
     let clears = |cost: &EffectiveCost| {
         let at_most = eligible.iter().filter(|row| EffectiveCost::of(row).at_most(*cost));
         let below = eligible.iter().filter(|row| EffectiveCost::of(row).below(*cost));
@@ -135,6 +143,21 @@ mod tests {
         }
     }
 
+    /// "Thus 200000 still gives 200000, and 200001 gives 200001", and so on up to the highest cost.
+    #[test]
+    fn above_2000_dollars_the_offer_is_the_cost() {
+        assert_eq!([189_999, 190_000, 199_999].map(capped), [199_999, 200_000, 200_000]);
+        assert_eq!([200_000, 200_001, 370_000].map(capped), [200_000, 200_001, 370_000]);
+    }
+
+    /// "A larger cost never has a smaller capped offer."
+    #[test]
+    fn capped_offers_never_fall() {
+        for cost in 0..370_000 {
+            assert!(capped(cost) <= capped(cost + 1), "{cost}");
+        }
+    }
+
     /// ★ "Same dfax, clearing row at cost 91 (offer 100): cost 137 (150) is relevant, 138 (151) is
     /// not."
     #[test]
@@ -142,6 +165,22 @@ mod tests {
         assert_eq!([91, 137, 138].map(capped), [100, 150, 151]);
         let rows = [row(1, 10, 91, 5000), row(2, 10, 137, 5000), row(3, 10, 138, 5000)];
         assert_eq!(relevant_units(&rows, 50_000), [1, 2]);
+    }
+
+    /// The same around 2,000 dollars: one and a half times 200001 is 300001 and a half, and 246666 leads to
+    /// 369999; the offer of 150000 is 160000, which leads to 240000 and past the ceiling.
+    #[test]
+    fn the_150_percent_of_offers_above_2000_dollars() {
+        for (clearing, within) in
+            [(200_000, 300_000), (200_001, 300_001), (246_666, 369_999), (150_000, 240_000)]
+        {
+            let costs = [clearing, within, within + 1];
+            let rows = [1, 2, 3].map(|unit| row(unit, 10, costs[unit as usize - 1], 5000));
+            assert_eq!(relevant_units(&rows, 50_000), [1, 2], "{clearing}");
+        }
+        let rows = [row(1, 10, 200_001, 5000), row(2, 10, 195_000, 5000), row(3, 10, 200_000, -5000)];
+        assert_eq!(clearing_cost(&rows, 100_000).offer, 200_000);
+        assert_eq!(clearing_cost(&rows, 100_001).offer, 200_001);
     }
 
     #[test]

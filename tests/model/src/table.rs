@@ -58,6 +58,9 @@ const fn column(name: &'static str, min: i64, max: i64) -> Column {
     Column { name, range: Range::Numeral(min, max) }
 }
 
+/// "Cost and price now go to 370000" (document 02, F-4).
+pub const HIGHEST_PRICE: i64 = 370_000;
+
 /// "constraint, exactly one row".
 pub const CONSTRAINT: Table = Table {
     file: 1,
@@ -73,7 +76,7 @@ pub const SUPPLY: Table = Table {
         column("unit", 1, 9_999),
         column("supplier", 1, 999),
         column("mw", 1, 100_000),
-        column("cost", 0, 200_000),
+        column("cost", 0, HIGHEST_PRICE),
         column("dfax", -10_000, 10_000),
     ],
 };
@@ -88,7 +91,7 @@ pub const SCHEDULES: Table = Table {
         Column { name: "kind", range: Range::Kind },
         column("hour", 0, 23),
         column("ecomin", 0, 100_000),
-        column("price", 0, 200_000),
+        column("price", 0, HIGHEST_PRICE),
         column("noload", 0, 100_000_000),
         column("startup", 0, 100_000_000),
         column("minrun", 1, 24),
@@ -105,7 +108,7 @@ pub const CURVES: Table = Table {
         column("schedule", 1, 99),
         column("hour", 0, 23),
         column("mw", 0, 100_000),
-        column("price", 0, 200_000),
+        column("price", 0, HIGHEST_PRICE),
     ],
 };
 
@@ -295,6 +298,11 @@ impl Table {
         self.columns.iter().map(|column| text(column.name)).collect()
     }
 
+    /// The column of costs or prices, where there is one.
+    pub fn priced_column(&self) -> Option<usize> {
+        self.columns.iter().position(|column| ["cost", "price"].contains(&column.name))
+    }
+
     /// The rows of a file, or its first refusal: "1, 2, 4, 3, ... each over the whole file".
     fn read(&self, file: &[u8]) -> Result<Vec<Vec<Value>>, Refusal> {
         let records = csv::records(file).ok_or(Refusal::at(1, self.file, 0))?;
@@ -481,14 +489,36 @@ mod tests {
         let file = |count: usize| format!("unit,schedule,hour,mw,price{}", "\r\n1,1,1,1,1".repeat(count));
         assert_eq!(curves(&file(4096)), Ok(4096));
         assert_eq!(curves(&file(4097)), Err((4, 4, 0)));
-        for row in ["9999,99,23,100000,200000", "1,1,0,0,0"] {
+        for row in ["9999,99,23,100000,370000", "1,1,0,0,0"] {
             assert_eq!(curves(&format!("{}\r\n{row}", file(1))), Ok(2), "{row}");
         }
         for row in ["0,1,0,0,0", "10000,1,0,0,0", "1,0,0,0,0", "1,100,0,0,0", "1,1,24,0,0"] {
             assert_eq!(curves(&format!("{}\r\n{row}", file(1))), Err((3, 4, 2)), "{row}");
         }
-        for row in ["1,1,0,100001,0", "1,1,0,0,200001", "1,1,0,-1,0", "1,1,0,01,0", "1,1,0,,0"] {
+        for row in ["1,1,0,100001,0", "1,1,0,0,370001", "1,1,0,-1,0", "1,1,0,01,0", "1,1,0,,0"] {
             assert_eq!(curves(&format!("{}\r\n{row}", file(1))), Err((3, 4, 2)), "{row}");
+        }
+    }
+
+    /// "Cost and price now go to 370000": in supply, in the schedules and in the curves.
+    #[test]
+    fn costs_and_prices_go_to_370000() {
+        let supply = |cost: u64| supply_row(&format!("1,1,1,{cost},7"));
+        let schedules = |price: u64| {
+            let header = "unit,schedule,kind,hour,ecomin,price,noload,startup,minrun";
+            let file = format!("{header}\r\n1,1,C,5,0,{price},0,0,1\r\n1,2,M,5,0,{price},0,0,1");
+            read_schedules(file.as_bytes()).map(|rows| [rows[0].price, rows[1].price])
+        };
+        let points = |price: u64| curves(&format!("unit,schedule,hour,mw,price\r\n1,1,5,0,{price}"));
+        for price in [0, 199_999, 200_000, 200_001, 369_999, 370_000] {
+            assert_eq!(supply(price), Ok(7), "{price}");
+            assert_eq!(schedules(price).ok(), Some([price; 2]));
+            assert_eq!(points(price), Ok(1), "{price}");
+        }
+        for price in [370_001, 400_000, 3_700_000, u64::MAX] {
+            assert_eq!(supply(price), Err((3, 2)), "{price}");
+            assert_eq!(schedules(price).err(), Some(Refusal::at(3, 3, 1)));
+            assert_eq!(points(price), Err((3, 4, 1)), "{price}");
         }
     }
 

@@ -1,5 +1,5 @@
-//! How often each refusal and each verdict was reached by the cases of a run, what parents and curves did,
-//! what was handed back tidy, and what was previewed.
+//! How often each refusal and each verdict was reached by the cases of a run, what parents, curves and costs
+//! above 2,000 dollars did, what was handed back tidy, and what was previewed.
 
 use std::collections::BTreeMap;
 use std::fmt::{self, Display, Formatter};
@@ -8,6 +8,7 @@ use std::ops::RangeInclusive;
 use crate::case::{read_hex, Case, StudyFiles, UNREADABLE};
 use crate::day::Day;
 use crate::grouping::Grouping;
+use crate::offering::{self, Offering};
 use crate::pricing::{self, Pricing};
 use crate::table::read_supply;
 
@@ -39,6 +40,8 @@ pub enum Reached {
     VerdictMoved,
     /// What curves did in a study or a preview.
     Curves(Pricing),
+    /// What costs and prices around 2,000 dollars and at the highest did.
+    Offers(Offering),
     /// A refusal of a file to be handed back tidy, by number and file.
     NotTidied(u64, u64),
     /// A file that was handed back tidy, by its number, ..
@@ -234,6 +237,36 @@ impl Tally {
         Ok(())
     }
 
+    /// What costs and prices around 2,000 dollars and at the highest did.
+    fn show_offers(&self, out: &mut Formatter) -> fmt::Result {
+        let of = |said| self.of(Reached::Offers(said));
+        for (what, given) in offering::GIVEN {
+            write!(out, "{what} above 2,000 dollars: {}", of(Offering::Above(given)))?;
+            for number in offering::EDGES {
+                write!(out, ", at {number}: {}", of(Offering::At(given, number)))?;
+            }
+            writeln!(out)?;
+        }
+        let said = offering::SAID.map(|(what, said)| format!("{what}: {}", of(said)));
+        writeln!(out, "{}", said.join(", "))?;
+        write!(out, "a cent above the highest")?;
+        for table in offering::PRICED {
+            write!(out, ", in file {}: {}", table.file, of(Offering::TooHigh(table.file)))?;
+        }
+        for table in offering::PRICED_ALONE {
+            write!(out, ", in file {} alone: {}", table.file, of(Offering::TooHighAlone(table.file)))?;
+        }
+        for table in offering::PRICED_ALONE {
+            write!(
+                out,
+                ", at the highest in file {}: {}",
+                table.file,
+                of(Offering::TidyHighest(table.file))
+            )?;
+        }
+        writeln!(out)
+    }
+
     /// What parents did.
     fn show_parents(&self, out: &mut Formatter) -> fmt::Result {
         write!(out, "longest chain, in steps from")?;
@@ -333,6 +366,7 @@ fn can_occur() -> Vec<Reached> {
         all.extend(places.iter().map(|&place| Reached::Place(number, place)));
     }
     all.extend(Pricing::all().into_iter().map(Reached::Curves));
+    all.extend(Offering::all().into_iter().map(Reached::Offers));
     all.extend(CHAINS.map(Reached::Chain));
     all.extend(MOVED.map(|(_, reached)| reached));
     all
@@ -346,11 +380,12 @@ fn placed(answer: &str) -> Option<(u64, u64)> {
     PLACES.iter().any(|(counted, _)| *counted == number).then(|| (number, count(place)))
 }
 
-/// What one case reached: by itself, by the place of its refusal and by its curves.
+/// What one case reached: by itself, by the place of its refusal, by its curves and by its costs and prices.
 fn reached(case: &[u8], answer: &str) -> Vec<Reached> {
     let mut all = reached_by_answer(case, answer);
     all.extend(placed(answer).map(|(number, place)| Reached::Place(number, band(place))));
     all.extend(Pricing::of(case, answer).into_iter().map(Reached::Curves));
+    all.extend(Offering::of(case, answer).into_iter().map(Reached::Offers));
     all
 }
 
@@ -444,7 +479,7 @@ fn count(word: &str) -> u64 {
 }
 
 /// The verdicts of the rows of an answer file in hex.
-fn verdicts(hex: &str) -> Vec<char> {
+pub fn verdicts(hex: &str) -> Vec<char> {
     let answer = read_hex(hex).unwrap_or_default();
     let text = String::from_utf8_lossy(&answer);
     text.lines().skip(1).filter_map(|row| row.split(',').nth(2)?.chars().next()).collect()
@@ -467,6 +502,7 @@ impl Display for Tally {
         writeln!(out, "releases accepted: {}", self.of(Reached::Release))?;
         self.show_places(out)?;
         self.show_curves(out)?;
+        self.show_offers(out)?;
         self.show_parents(out)?;
         self.show_tidy(out)?;
         self.show_previews(out)?;

@@ -3,8 +3,8 @@
 with open("supply.csv", "wb") as file:
     file.write(b"unit,supplier,mw,cost,dfax\r\n")
     for row in range(256):
-        file.write(b"%d,%d,100000,200000,10000\r\n" % (9936 + row // 4, 900 + row // 8))
+        file.write(b"%d,%d,100000,370000,10000\r\n" % (9936 + row // 4, 900 + row // 8))
 with open("schedules.csv", "wb") as file:
     file.write(b"unit,schedule,kind,hour,ecomin,price,noload,startup,minrun\r\n")
     for row in range(320):
-        file.write(b"%d,99,C,%d,100000,200000,100000000,100000000,5\r\n" % (9936 + row // 5, row % 5))
+        file.write(b"%d,99,C,%d,100000,370000,100000000,100000000,5\r\n" % (9936 + row // 5, row % 5))

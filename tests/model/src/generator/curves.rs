@@ -1,7 +1,7 @@
 //! Curves of a draft: over few or many of its schedule rows, of one to ten points with many at ecomin or
 //! beside it, one curve after the other or interleaved.
 
-use super::draft::price_like;
+use super::prices::{price_like, EDGES, HIGHEST};
 use super::random::Random;
 use crate::curves;
 use crate::rules::run;
@@ -23,7 +23,7 @@ pub struct Ceiling {
 
 impl Ceiling {
     /// The ends of the columns' ranges.
-    pub const OF_COLUMNS: Ceiling = Ceiling { mw: 100_000, price: 200_000 };
+    pub const OF_COLUMNS: Ceiling = Ceiling { mw: 100_000, price: HIGHEST };
 }
 
 /// Curves that nothing refuses, for these rows and the study hour; none half of the time.
@@ -68,9 +68,9 @@ fn make_price(row: &Schedule, rows: &[Schedule], random: &mut Random) -> u64 {
     let rivals: Vec<&Schedule> = rows.iter().filter(beside).collect();
     let price = match random.between(0, 9) {
         0 => row.price,
-        1 => random.pick(&[0, 9, 10, 99_999, 100_001, 189_999, 190_000, 200_000]),
+        1 => random.pick(&EDGES),
         2..=3 if !rivals.is_empty() => {
-            let even = price_like(row.kind, random.pick(&rivals));
+            let even = price_like(row.kind, random.pick(&rivals), random);
             random.pick(&[even, even, even + 1, even.saturating_sub(1)])
         }
         _ => row.price * random.between(20, 220) / 100,
@@ -166,7 +166,7 @@ mod tests {
             let random = &mut Random::of(2, index);
             let Some(mut row) = Draft::make(random).schedules.first().copied() else { continue };
             row.ecomin = random.pick(&[0, 1, 5, row.ecomin, 99_995, 100_000]);
-            let price = random.pick(&[0, 1, 5, row.price, 199_995, 200_000]);
+            let price = random.pick(&[0, 1, 5, row.price, 199_995, 200_000, HIGHEST - 5, HIGHEST]);
             let curve = make_curve(&row, price, POINTS, Ceiling::OF_COLUMNS, random);
             assert_eq!(disordered(&curve), None, "{index}");
             assert_eq!(priced(&[row], &curve)[0].price, price, "{index}");

@@ -1,11 +1,11 @@
 //! Drafts: studies that nothing refuses, of every size, with many ties and edges in them.
 
 use super::curves::make_curves;
+use super::prices::{price_like, Prices, HIGHEST};
 use super::random::Random;
 use super::supply::{make_market, Size};
 use crate::curves::belongs;
 use crate::day::{Day, Running};
-use crate::market::capped;
 use crate::table::{Constraint, Kind, Parent, Point, Schedule, Supply};
 
 /// The most rows of the schedules file.
@@ -53,7 +53,7 @@ impl Draft {
                 kind,
                 hour,
                 ecomin: random.between(10_000, 99_999),
-                price: random.between(100_000, 200_000),
+                price: random.between(100_000, HIGHEST),
                 noload: random.between(10_000_000, 99_999_999),
                 startup,
                 minrun: 16,
@@ -153,10 +153,10 @@ impl Plan {
         let mut rows: Vec<Schedule> = Vec::new();
         let numbers = make_numbers(random);
         let market_based = if random.percent(85) { Some(random.pick(&numbers)) } else { None };
-        let level = random.scaled(100_000);
+        let prices = Prices::make(random);
         for number in numbers {
             let kind = if Some(number) == market_based { Kind::M } else { Kind::C };
-            let mut first = self.schedule(unit, number, kind, level, random);
+            let mut first = self.schedule(unit, number, kind, prices.price(random), random);
             if !rows.is_empty() && random.percent(40) {
                 first = make_twin(&first, &random.pick(&rows), random);
             }
@@ -165,13 +165,8 @@ impl Plan {
         rows
     }
 
-    /// The row of a schedule at the study hour, with a price around a level.
-    fn schedule(&self, unit: u64, schedule: u64, kind: Kind, level: u64, random: &mut Random) -> Schedule {
-        let price = match random.between(0, 9) {
-            0 => random.pick(&[0, 9, 10, 99_999, 100_001, 189_999, 190_000, 200_000]),
-            1 => random.scaled(200_000),
-            _ => level * random.between(60, 160) / 100,
-        };
+    /// The row of a schedule at the study hour.
+    fn schedule(&self, unit: u64, schedule: u64, kind: Kind, price: u64, random: &mut Random) -> Schedule {
         let ecomin =
             if random.once_in(20) { random.pick(&[0, 1, 100_000]) } else { random.between(1, 2_000) };
         let minrun = if self.brief { random.pick(&[1, 1, 2, 3]) } else { random.pick(&[1, 2, 4, 8, 23, 24]) };
@@ -200,7 +195,7 @@ impl Plan {
         let row = |hour: u64| {
             let mut row = Schedule { hour, minrun, ..*first };
             if hour != self.hour && !flat {
-                row.price = (row.price * random.between(50, 150) / 100).min(200_000);
+                row.price = (row.price * random.between(50, 150) / 100).min(HIGHEST);
                 row.noload = row.noload * random.between(50, 100) / 100;
             }
             row
@@ -232,33 +227,15 @@ fn make_charge(random: &mut Random) -> u64 {
 /// a C row.
 fn make_twin(first: &Schedule, twin: &Schedule, random: &mut Random) -> Schedule {
     let mut schedule = Schedule { schedule: first.schedule, kind: first.kind, hour: first.hour, ..*twin };
-    schedule.price = price_like(schedule.kind, twin);
+    schedule.price = price_like(schedule.kind, twin, random);
     match random.between(0, 9) {
         0 => schedule.noload = (schedule.noload + 1).min(100_000_000),
         1 => schedule.startup = (schedule.startup + 1).min(100_000_000),
-        2 => schedule.price = (schedule.price + 1).min(200_000),
+        2 => schedule.price = (schedule.price + 1).min(HIGHEST),
         3 => schedule.minrun = random.between(1, 3),
         _ => {}
     }
     schedule
-}
-
-/// The price with which a row of a kind offers what another row does, or all but.
-pub fn price_like(kind: Kind, other: &Schedule) -> u64 {
-    match (kind, other.kind) {
-        (Kind::M, Kind::C) => capped(other.price),
-        (Kind::C, Kind::M) => uncapped(other.price),
-        _ => other.price,
-    }
-}
-
-/// The cost whose capped offer comes nearest to an offer from below.
-pub fn uncapped(offer: u64) -> u64 {
-    let mut cost = offer * 10 / 11;
-    while cost < 200_000 && capped(cost + 1) <= offer {
-        cost += 1;
-    }
-    cost
 }
 
 /// A day that the draft can be studied on.

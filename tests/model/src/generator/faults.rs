@@ -2,6 +2,7 @@
 
 use super::draft::{others_running, Draft};
 use super::parents::{close_ring, give_twice};
+use super::prices::HIGHEST;
 use super::random::Random;
 use super::sheet::{Sheet, LARGEST_FILE};
 use crate::case::LONGEST_LIST;
@@ -75,7 +76,7 @@ fn crowd(draft: &mut Draft, random: &mut Random) {
             unit: draft.other_unit(random),
             supplier,
             mw: random.between(1, 1_000),
-            cost: random.scaled(200_000),
+            cost: random.scaled(HIGHEST),
             dfax: random.pick(&[0, 1, -5_000, 10_000]),
         };
         draft.supply.push(row);
@@ -123,7 +124,7 @@ fn set_schedules_at_odds(draft: &mut Draft, random: &mut Random) {
         0 => row = Schedule { kind: other_kind, hour: other_hour, ..row },
         1 => row = Schedule { startup: (row.startup + 1) % 100_000_001, hour: other_hour, ..row },
         2 => row = Schedule { minrun: row.minrun % 24 + 1, hour: other_hour, ..row },
-        3 => row = Schedule { price: random.scaled(200_000), ..row },
+        3 => row = Schedule { price: random.scaled(HIGHEST), ..row },
         4 => row = Schedule { kind: Kind::M, schedule: row.schedule % 99 + 1, ..row },
         _ => {}
     }
@@ -298,6 +299,11 @@ fn spoil_header(header: &mut [Field], random: &mut Random) {
 fn spoil_field(sheet: &mut Sheet, random: &mut Random) {
     let Some(place) = sheet.some_row(random) else { return };
     let width = sheet.records[place].len().min(sheet.table.columns.len());
+    let priced = sheet.table.priced_column().filter(|&column| column < width);
+    if let Some(column) = priced.filter(|_| random.once_in(4)) {
+        sheet.records[place][column] = (HIGHEST + 1).to_string().into_bytes();
+        return;
+    }
     let last = random.once_in(4);
     let column = if last { width - 1 } else { random.index(width) };
     let field = &mut sheet.records[place][column];

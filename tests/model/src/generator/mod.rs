@@ -9,6 +9,7 @@ mod full;
 mod lines;
 mod parents;
 mod preview;
+mod prices;
 pub mod random;
 pub mod sheet;
 mod spoilt_curves;

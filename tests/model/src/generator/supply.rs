@@ -1,10 +1,11 @@
 //! Supply rows, cutoff and relief of a draft, with effective costs that tie or nearly do, and a need
 //! at the edges of what is supplied, cleared and left by groups.
 
-use super::draft::{different, uncapped};
+use super::draft::different;
 use super::parents::{grouped, make_parents};
+use super::prices::{make_dear, uncapped, EDGES, HIGHEST, HIGHEST_WITH_HALF_MORE};
 use super::random::Random;
-use crate::market::{capped, effective_supply, supply_of};
+use crate::market::{capped, effective_supply, supply_of, TWO_THOUSAND_DOLLARS};
 use crate::table::{Constraint, Parent, Supply};
 
 /// How large a draft is.
@@ -49,6 +50,8 @@ enum Style {
     Flat,
     /// Effective costs that differ by as little as fractions can.
     Near,
+    /// The same around 2,000 dollars, with room in the range for half as much again.
+    Dear,
     /// Many costs of 0.
     Free,
     /// Columns at the ends of their ranges.
@@ -73,6 +76,8 @@ pub fn make_market(size: Size, hour: u64, random: &mut Random) -> (Constraint, V
         Style::Ties,
         Style::Flat,
         Style::Near,
+        Style::Dear,
+        Style::Dear,
         Style::Free,
         Style::Extreme,
     ]);
@@ -158,6 +163,7 @@ impl Scale {
                 (20 * random.between(1, 500), random.pick(&[500, 1_000, 2_000, 2_500]))
             }
             Style::Near => (random.between(100, 100_000), random.between(500, 10_000)),
+            Style::Dear => (make_dear_level(random), random.pick(&[600, 3_000, 6_000, 9_000])),
             _ => (random.scaled(60_000) + 10, random.between(1_000, 10_000)),
         };
         Scale { style, cost, dfax }
@@ -168,6 +174,7 @@ impl Scale {
         match self.style {
             Style::Ties | Style::Flat => self.dfax * random.pick(&[1, 2, 4]),
             Style::Near if random.percent(30) => self.dfax,
+            Style::Dear => random.pick(&[self.dfax, self.dfax, self.dfax, self.dfax * 2 / 3, self.dfax / 2]),
             Style::Extreme => random.pick(&[10_000, 10_000, 9_999, 1, 0]),
             _ if random.once_in(25) => 0,
             _ if random.once_in(12) => random.between(1, 400),
@@ -178,7 +185,7 @@ impl Scale {
     /// A row of a unit.
     fn row(&self, unit: &Unit, random: &mut Random) -> Supply {
         let dfax = if unit.negative { -(unit.dfax as i64) } else { unit.dfax as i64 };
-        let cost = self.cost(unit.dfax, random).min(200_000);
+        let cost = self.cost(unit.dfax, random).min(HIGHEST);
         Supply { unit: unit.number, supplier: unit.supplier, mw: self.mw(random), cost, dfax }
     }
 
@@ -205,20 +212,28 @@ impl Scale {
                     tied
                 }
             }
-            Style::Near => self.near_cost(dfax, random),
+            Style::Dear if random.once_in(8) => make_dear(random),
+            Style::Near | Style::Dear => self.near_cost(dfax, random),
             Style::Free => random.pick(&[0, 0, 0, 1, 9, 10, self.cost]),
-            Style::Extreme => random.pick(&[
-                0, 9, 10, 91, 137, 138, 99_999, 100_000, 100_001, 133_333, 189_999, 190_000, 195_000, 200_000,
-            ]),
+            Style::Extreme if random.percent(60) => random.pick(&EDGES),
+            Style::Extreme => random.pick(&[91, 137, 138, 100_000, 133_333, 195_000]),
         }
     }
 
     /// A cost next to the scale's own effective cost, or to 150% of it.
     fn near_cost(&self, dfax: u64, random: &mut Random) -> u64 {
         let level = capped(self.cost) * dfax * random.pick(&[2, 3]) / (2 * self.dfax);
-        let cost = uncapped(level.min(200_000));
+        let cost = uncapped(level.min(HIGHEST), random);
         random.pick(&[cost, cost, cost + 1, cost.saturating_sub(1)])
     }
+}
+
+/// A cost around 2,000 dollars, with room in the range for half as much again.
+fn make_dear_level(random: &mut Random) -> u64 {
+    let below = random.between(TWO_THOUSAND_DOLLARS / 2, TWO_THOUSAND_DOLLARS);
+    let above = random.between(TWO_THOUSAND_DOLLARS + 1, HIGHEST_WITH_HALF_MORE);
+    let edge = random.pick(&[TWO_THOUSAND_DOLLARS, TWO_THOUSAND_DOLLARS + 1, HIGHEST_WITH_HALF_MORE]);
+    random.pick(&[below, below, above, above, above, edge])
 }
 
 /// A cutoff that leaves most rows eligible, often with one right at it.
@@ -291,23 +306,10 @@ fn balance(rows: &mut Vec<Supply>, random: &mut Random) -> u64 {
         unit,
         supplier: beside.supplier,
         mw: random.pick(&[gap, gap - 1]),
-        cost: random.pick(&[0, beside.cost, 200_000]),
+        cost: random.pick(&[0, beside.cost, HIGHEST]),
         dfax: random.pick(&[1, -1]),
     };
     rows.truncate(255);
     rows.push(balance);
     relief
-}
-
-#[cfg(test)]
-mod tests {
-    use super::*;
-
-    #[test]
-    fn uncapped_undoes_capped() {
-        for cost in (0..200_000).step_by(7) {
-            let offer = capped(cost);
-            assert_eq!(capped(uncapped(offer)), offer, "{cost}");
-        }
-    }
 }

@@ -19,7 +19,7 @@ returns c = rw (c .enum-told .given .1)
 
 returns-2 : tie.Need-returns-2
 unfolding offerPrice
-returns-2 c = rw (c .before .enum-told2 .given .1) (c .capped .ensures .0)
+returns-2 c = rw (c .before .enum-told2 .given .1) (c .capped .ensures)
 
 pub offer-price-spec : {M : Type 1} → statement M
 offer-price-spec = tie.close (tie.spec enum-told enum-told-2 capped-requires returns returns-2)

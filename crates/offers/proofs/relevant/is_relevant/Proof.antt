@@ -13,13 +13,13 @@ cost-beside-requires : tie.Need-cost-beside-requires
 cost-beside-requires c κs = search needs
 
 mul-result : tie.Need-mul-result
-mul-result c = omega (arith, beside-small _ _ _ (c .before .before .before .before .pre .1 .permitted) (c .cost-beside .ensures))
+mul-result c = omega (arith, beside-small _ _ _ (c .before .before .before .before .pre .1 .permitted) (c .before .before .before .before .pre .0 .permitted) (c .cost-beside .ensures))
 
 cost-beside-requires-2 : tie.Need-cost-beside-requires-2
 cost-beside-requires-2 c κs = search needs
 
 mul-result-2 : tie.Need-mul-result-2
-mul-result-2 c = omega (arith, beside-small _ _ _ (c .before .before .before .before .before .pre .0 .permitted) (c .cost-beside2 .ensures))
+mul-result-2 c = omega (arith, beside-small _ _ _ (c .before .before .before .before .before .pre .0 .permitted) (c .before .before .before .before .before .pre .1 .permitted) (c .cost-beside2 .ensures))
 
 returns : tie.Need-returns
 unfolding relevant

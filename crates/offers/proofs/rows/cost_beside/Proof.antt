@@ -19,8 +19,7 @@ shared-slice-read-cost : tie.Need-shared-slice-read-cost
 shared-slice-read-cost c = search needs
 
 capped-requires : tie.Need-capped-requires
-capped-requires c κs = let start = c .before .before in
-    omega (arith, start .pre .1 .permitted .cost)
+capped-requires c κs = search needs
 
 abs-dfax-requires : tie.Need-abs-dfax-requires
 abs-dfax-requires c κs = search needs
@@ -29,13 +28,13 @@ mul-result : tie.Need-mul-result
 mul-result c = let start = c .before .before .before .before in
     omega (
       arith,
-      beside-small _ _ _ (start .pre .0 .permitted)
-          (beside-cells (start .args .cells .now) (start .args .row) (start .args .other) _ _ (c .before .capped .ensures .0) (c .abs-dfax .ensures)),
+      beside-small _ _ _ (start .pre .0 .permitted) (start .pre .1 .permitted)
+          (beside-cells (start .args .cells .now) (start .args .row) (start .args .other) _ _ (c .before .capped .ensures) (c .abs-dfax .ensures)),
     )
 
 returns : tie.Need-returns
 returns c = let start = c .before .before .before .before in
-    beside-cells (start .args .cells .now) (start .args .row) (start .args .other) _ _ (c .before .capped .ensures .0) (c .abs-dfax .ensures)
+    beside-cells (start .args .cells .now) (start .args .row) (start .args .other) _ _ (c .before .capped .ensures) (c .abs-dfax .ensures)
 
 pub cost-beside-spec : {M : Type 1} → statement M
 cost-beside-spec =

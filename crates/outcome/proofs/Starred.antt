@@ -32,7 +32,7 @@ use Rattle.market.specs.Parties.{party, parties, relevantOf, amountOf, amounts}
 use Rattle.offers.specs.Relevant.{relevant}
 use Rattle.tables.proofs.Starred.{constraintFile, supplyFile, schedulesFile, starred·all}
 use Rattle.hours.specs.Hours.{inRun}
-use Rattle.pivotal.specs.Test.{total, begun, fed, fedAll, left, pivotal, tooLarge, outOfBounds, tested, Verdict, P, F, verdictLetter, TestOutcome}
+use Rattle.pivotal.specs.Test.{total, noLargest, largestWith, largestAfter, left, pivotal, tooLarge, outOfBounds, tested, Verdict, P, F, verdictLetter, TestOutcome}
 use Rattle.tables.specs.Rows.{SupplyRow, magnitude, kindOf}
 use Rattle.tables.specs.Refusals.{bareRefusal}
 use Rattle.affiliates.proofs.Computing.{affiliates·all}
@@ -60,7 +60,7 @@ answerExample =
 
 -- opens every definition, part by part
 unfoldable test·all : Unit {0}
-unfolding total begun fed fedAll left pivotal tooLarge outOfBounds tested
+unfolding total noLargest largestWith largestAfter left pivotal tooLarge outOfBounds tested
 test·all = tt
 
 unfoldable market·all : Unit {0}

@@ -12,7 +12,7 @@ use lib.Seq.{getD-set-other}
 use borrow.Author.Needs.{needs}
 use borrow.Author.Tests.{ltb-true, ltb-false}
 use Rattle.base.proofs.Lists.{drop-next, drop-end}
-use Rattle.pivotal.specs.Test.{total, Largest, begun, fed, fedAll}
+use Rattle.pivotal.specs.Test.{total, Largest, noLargest, largestWith, largestAfter}
 
 -- an amount taken away is missing from the total
 pub total-set : (s : List ℕ) (q : ℕ) → total (set s q 0) + getD s q 0 ≡ total s
@@ -50,18 +50,18 @@ module _ (s : List ℕ) (i : ℕ) (h : i < length s) where
   unfolding total
   total-next = rw (drop-next 0 i s h)
 
-  pub fedAll-next : (l : Largest) → fedAll l (drop i s) ≡ fedAll (fed l (getD s i 0)) (drop (i + 1) s)
-  unfolding fedAll
-  fedAll-next l = rw (drop-next 0 i s h)
+  pub largest-next : (l : Largest) → largestAfter l (drop i s) ≡ largestAfter (largestWith l (getD s i 0)) (drop (i + 1) s)
+  unfolding largestAfter
+  largest-next l = rw (drop-next 0 i s h)
 
 module _ (s : List ℕ) (i : ℕ) (h : length s ≤ i) where
   pub total-end : total (drop i s) ≡ 0
   unfolding total
   total-end = rw (drop-end i s h)
 
-  pub fedAll-end : (l : Largest) → fedAll l (drop i s) ≡ l
-  unfolding fedAll
-  fedAll-end l = rw (drop-end i s h)
+  pub largest-end : (l : Largest) → largestAfter l (drop i s) ≡ l
+  unfolding largestAfter
+  largest-end l = rw (drop-end i s h)
 
 -- the two largest together
 unfoldable pub both : Largest → ℕ
@@ -69,13 +69,13 @@ both l = l .first + l .second
 
 -- the three ways of feeding an amount
 module _ (l : Largest) (a : ℕ) (Q : Largest → Type 0) where
-  pub fed-cases :
+  pub largest-cases :
       (l .first < a → Q (record { first = a; second = l .first })) →
       (a ≤ l .first → l .second < a → Q (record { first = l .first; second = a })) →
       (a ≤ l .first → a ≤ l .second → Q l) →
-      Q (fed l a)
-  unfolding fed
-  fed-cases x y z = go (ltb (l .first) a) (ltb (l .second) a) refl refl
+      Q (largestWith l a)
+  unfolding largestWith
+  largest-cases x y z = go (ltb (l .first) a) (ltb (l .second) a) refl refl
     where
       go :
           (t u : Bool) → ltb (l .first) a ≡ t → ltb (l .second) a ≡ u →
@@ -95,10 +95,10 @@ record Feeds (l : Largest) (a : ℕ) (m : Largest) : Type 0 where
   first-from : (m .first ≡ l .first) ⊎ (m .first ≡ a)
   both-from : (both m ≡ both l) ⊎ (both m ≡ l .first + a)
 
-feeds : (l : Largest) (a : ℕ) → l .second ≤ l .first → Feeds l a (fed l a)
+feeds : (l : Largest) (a : ℕ) → l .second ≤ l .first → Feeds l a (largestWith l a)
 unfolding both
 feeds l a o =
-    fed-cases l a (Feeds l a)
+    largest-cases l a (Feeds l a)
     (λ h. search (needs, inr, add-comm))
     (λ h k. search (needs, inl, inr))
     (λ h k. search (needs, inl))
@@ -131,12 +131,12 @@ module _ {l : Largest} {a : ℕ} {s : List ℕ} {m : Largest} {n : ℕ} (f : Fee
         no-more = omega (arith, f .no-more, t .no-more);
       }
 
-tops : (l : Largest) (s : List ℕ) → l .second ≤ l .first → Tops l s (both (fedAll l s))
-unfolding fedAll total both
+tops : (l : Largest) (s : List ℕ) → l .second ≤ l .first → Tops l s (both (largestAfter l s))
+unfolding largestAfter total both
 tops l [] o = record { earlier = omega arith; one = λ q. omega arith; two = λ q r h. omega arith; no-more = omega arith }
 tops l (a ∷ s) o =
     let f = feeds l a o in
-    tops-more f (tops (fed l a) s (f .ordered))
+    tops-more f (tops (largestWith l a) s (f .ordered))
 
 -- the two largest together come from earlier ones and from the amounts, or from two of the amounts
 data Sources (l : Largest) (s : List ℕ) (n : ℕ) : Type 0 where
@@ -150,31 +150,31 @@ sources-more f (one q e) =
     ⊎-elim (λ b. one (suc q) (omega arith)) (λ b. two 0 (suc q) (λ z. absurd (omega arith)) (omega arith)) (f .first-from)
 sources-more f (two q r h e) = two (suc q) (suc r) (λ z. h (omega arith)) e
 
-sources : (l : Largest) (s : List ℕ) → l .second ≤ l .first → Sources l s (both (fedAll l s))
-unfolding fedAll
+sources : (l : Largest) (s : List ℕ) → l .second ≤ l .first → Sources l s (both (largestAfter l s))
+unfolding largestAfter
 sources l [] o = earlier refl
 sources l (a ∷ s) o =
     let f = feeds l a o in
-    sources-more f (sources (fed l a) s (f .ordered))
+    sources-more f (sources (largestWith l a) s (f .ordered))
 
 -- the two largest of some amounts, together
 unfoldable pub largestTwo : List ℕ → ℕ
-largestTwo s = both (fedAll begun s)
+largestTwo s = both (largestAfter noLargest s)
 
 module _ (s : List ℕ) where
-  all-tops : Tops begun s (largestTwo s)
-  unfolding begun largestTwo
-  all-tops = tops begun s (omega arith)
+  all-tops : Tops noLargest s (largestTwo s)
+  unfolding noLargest largestTwo
+  all-tops = tops noLargest s (omega arith)
 
   pub largest-one : (q : ℕ) → getD s q 0 ≤ largestTwo s
-  unfolding begun
+  unfolding noLargest
   largest-one q = omega (arith, all-tops .one q)
 
   pub largest-two : (q r : ℕ) → q ≢ r → getD s q 0 + getD s r 0 ≤ largestTwo s
   largest-two = all-tops .two
 
   pub largest-within : largestTwo s ≤ total s
-  unfolding begun both
+  unfolding noLargest both
   largest-within = omega (arith, all-tops .no-more)
 
   past : (q : ℕ) → length s ≤ q → getD s q 0 ≡ 0
@@ -182,8 +182,8 @@ module _ (s : List ℕ) where
 
   -- two places hold the two largest; one past the end holds 0
   pub largest-places : (q : ℕ) × (r : ℕ) × (q ≢ r) × (largestTwo s ≡ getD s q 0 + getD s r 0)
-  unfolding begun both largestTwo
-  largest-places = elim (sources begun s (omega arith)) [
+  unfolding noLargest both largestTwo
+  largest-places = elim (sources noLargest s (omega arith)) [
     | earlier e ↦ (length s, suc (length s), (λ z. absurd (omega arith)), omega (arith, past (length s) (omega arith), past (suc (length s)) (omega arith)))
     | one q e ↦ (q, suc (q + length s), (λ z. absurd (omega arith)), omega (arith, past (suc (q + length s)) (omega arith)))
     | two q r h e ↦ (q, r, h, e)

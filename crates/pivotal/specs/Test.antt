@@ -34,25 +34,25 @@ pub record Largest : Type 0 where
   pub second : ℕ
 
 -- the two largest of no amounts
-unfoldable pub begun : Largest
-begun = record { first = 0; second = 0 }
+unfoldable pub noLargest : Largest
+noLargest = record { first = 0; second = 0 }
 
 -- the two largest with one amount more
-unfoldable pub fed : Largest → ℕ → Largest
-fed l a =
+unfoldable pub largestWith : Largest → ℕ → Largest
+largestWith l a =
     cond (ltb (l .first) a)
     (record { first = a; second = l .first })
     (cond (ltb (l .second) a) (record { first = l .first; second = a }) l)
 
-unfoldable pub fedAll : Largest → List ℕ → Largest
-fedAll l [] = l
-fedAll l (a ∷ s) = fedAll (fed l a) s
+unfoldable pub largestAfter : Largest → List ℕ → Largest
+largestAfter l [] = l
+largestAfter l (a ∷ s) = largestAfter (largestWith l a) s
 
 -- "left is the relevant supply without it and without its two largest other suppliers (fewer where fewer exist)"
 unfoldable pub left : List ℕ → ℕ → ℕ
 left s p =
     let others = set s p 0 in
-    let largest = fedAll begun others in
+    let largest = largestAfter noLargest others in
     total others - (largest .first + largest .second)
 
 -- "F when left is below the need, else P"

@@ -4,7 +4,7 @@
 ghost use mathlib.Core.Path.{_≡_};
 ghost use Prim.Native.Nat.{_+_, _<_, _^_};
 ghost use lib.ListN.{length, getD, set};
-ghost use Rattle.pivotal.specs.Test.{finding, testOutcome, tested, tooLarge, testVerdict, fed as Test·fed, left as Test·left, pivotal as Test·pivotal};
+ghost use Rattle.pivotal.specs.Test.{finding, testOutcome, tested, tooLarge, testVerdict, largestWith, left as Test·left, pivotal as Test·pivotal};
 ghost use Rattle.pivotal.specs.promises.Tally.{largest, Limited};
 
 // The most amounts that are tested together, and the most that one may be.
@@ -109,7 +109,7 @@ fn other(amounts: &[u64], place: usize, i: usize) -> u64
 fn fed(t: Tally, amount: u64) -> Tally
     requires { ⌜ t .total + amount < 2 ^ 64 ⌝ }
     ensures { λ r. ⌜ r .total ≡ t .total + amount ⌝ }
-    ensures { λ r. ⌜ largest r ≡ Test·fed (largest t) amount ⌝ }
+    ensures { λ r. ⌜ largest r ≡ largestWith (largest t) amount ⌝ }
 {
     let total = t.total + amount;
     if t.first < amount {

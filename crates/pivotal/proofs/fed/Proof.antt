@@ -2,7 +2,7 @@
 use mathlib.Core.Path.{refl}
 use borrow.Author.Tests.{lt-ltb, le-ltb}
 use borrow.Author.Needs.{needs}
-use Rattle.pivotal.specs.Test.{fed}
+use Rattle.pivotal.specs.Test.{largestWith}
 use Rattle.pivotal.specs.promises.Tally.{largest}
 use Rattle.pivotal.proofs.fed.Statement.{statement}
 use Rattle.pivotal.proofs.fed.Tie as tie
@@ -11,15 +11,15 @@ add-total : tie.Need-add-total
 add-total c = search needs
 
 returns : tie.Need-returns
-unfolding fed largest
+unfolding largestWith largest
 returns c = (refl, simp (lt-ltb _ _ (c .if1 .taken)))
 
 returns-2 : tie.Need-returns-2
-unfolding fed largest
+unfolding largestWith largest
 returns-2 c = (refl, simp (le-ltb _ _ (c .before .before .if1 .left), lt-ltb _ _ (c .if2 .taken)))
 
 returns-3 : tie.Need-returns-3
-unfolding fed largest
+unfolding largestWith largest
 returns-3 c = (refl, simp (le-ltb _ _ (c .before .before .if1 .left), le-ltb _ _ (c .if2 .left)))
 
 pub fed-spec : {M : Type 1} → statement M

@@ -4,8 +4,8 @@
  * Holds for each call: a run of bytes or amounts is a pointer, then how many there are, and no pointer may be NULL, not even
  * with length 0. Everything belongs to the caller: what is const is only read, what isn't is written during the call, and
  * nothing is kept or freed. What is written may overlap nothing else that is lent to the same call. There is no state but the
- * days that callers keep, so threads may call at the same time, on a day each. A call takes up to 136 KiB of stack,
- * and one with curves up to 328 KiB.
+ * days and the fed tests that callers keep, so threads may call at the same time, on a day or a fed test each. A call takes up to
+ * 136 KiB of stack, and one with curves up to 328 KiB.
  *
  * A curves or a parents file of length 0 is none; each other file of length 0 is one record with one blank field.
  * docs/REFUSALS.md says what each number means and how to mend it. */
@@ -34,10 +34,13 @@ extern "C" {
 #define CAPPING_NO_CURVES (const uint8_t *)"", 0
 #define CAPPING_NO_PARENTS (const uint8_t *)"", 0
 
-/* What capping_test answers. */
+/* What capping_test and capping_fed_ask answer. */
 #define CAPPING_P 0
 #define CAPPING_F 1
 #define CAPPING_TEST_REFUSED 11
+
+/* So many numbers are a test that is fed. */
+#define CAPPING_FED_CELLS 6
 
 /* So many cells are a day, and so many units run at most. The cells grow when days learn more: a caller who goes through this
  * constant and the functions below then compiles again and rewrites nothing. */
@@ -86,6 +89,25 @@ uint64_t capping_longest_tidy(uint64_t file);
  * Answers CAPPING_P or CAPPING_F and stores what is left without the supplier and its two largest others. With more than 32
  * amounts, an amount above 10^12 or no such place it answers CAPPING_TEST_REFUSED, and `left` stays as it was. */
 uint64_t capping_test(const uint64_t *amounts, size_t amounts_len, uint64_t place, uint64_t need, uint64_t *left);
+
+/* The same test fed one amount a call, for suppliers' totals that come as a stream. The caller keeps its cells, CAPPING_FED_CELLS
+ * plain numbers however many totals come, and lends them to each call; they may be copied and stored, and what each stands for is
+ * the engine's own business. It is begun, fed, and asked; asking doesn't end it.
+ *
+ * Cells that no test was begun in may be lent too, and no harm is done; what is answered of them is left open. */
+
+/* Makes the cells those of a test with no amount yet, whatever stood there. The place is that of the supplier tested, from 0, and
+ * may be any number: whether an amount has come for it is looked at when the test is asked. */
+void capping_fed_begin(uint64_t fed[CAPPING_FED_CELLS], uint64_t place, uint64_t need);
+
+/* Gives the test one amount more. Nothing is refused here: a 33rd amount, or one above 10^12, is remembered whatever comes behind
+ * it, and told when the test is asked. */
+void capping_fed_feed(uint64_t fed[CAPPING_FED_CELLS], uint64_t amount);
+
+/* Answers what capping_test answers on the list of the amounts fed so far, and stores what is left; with CAPPING_TEST_REFUSED
+ * `left` stays as it was. So a test that is asked before the amount of its place has come is refused, and answers later. No cell
+ * changes: it can be asked in between and fed on, and threads may ask one test at the same time, while none feeds it. */
+uint64_t capping_fed_ask(const uint64_t fed[CAPPING_FED_CELLS], uint64_t *left);
 
 /* A day holds the hour of its last accepted study and the units that run. The caller keeps its cells and lends them to each
  * call, which leaves there the day afterwards; a call that is refused leaves every cell as it was. Any cells whatever are a

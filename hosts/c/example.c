@@ -1,5 +1,6 @@
 /* What a caller writes: a look at the choice for one unit, and then the study of files that are read into memory; what runs after
- * it, and the release of a unit; one of the files handed back tidy; and the test of the last of four suppliers. */
+ * it, and the release of a unit; one of the files handed back tidy; and the test of the last of four suppliers, on a list and fed
+ * one amount a call. */
 #include "capping.h"
 
 #include <inttypes.h>
@@ -52,5 +53,11 @@ int main(void) {
 
     uint64_t amounts[] = {4, 3, 2, 1}, left;
     if (capping_test(amounts, 4, 3, 2, &left) == CAPPING_P) printf("P, left %d\n", (int)left);
+
+    uint64_t fed[CAPPING_FED_CELLS];
+    capping_fed_begin(fed, 3, 2);
+    for (int i = 0; i < 4; i++)
+        capping_fed_feed(fed, amounts[i]);
+    if (capping_fed_ask(fed, &left) == CAPPING_P) printf("P, left %d\n", (int)left);
     return 0;
 }

@@ -82,16 +82,6 @@ static const struct study_beside parents_studies[] = {
     {{"", PARENTS "1,1\r\n"}, {"a ring before a unit without a schedule", ENOUGH, "", {36, 5, 1}, NO_SCHEDULES}},
 };
 
-/* A test of one supplier. */
-struct one_test {
-    const char *name;
-    uint64_t amounts[33];
-    size_t count;
-    uint64_t place, need, verdict, left;
-};
-
-#define MOST_AMOUNT UINT64_C(1000000000000)
-
 static const struct one_test tests[] = {
     {"the last of four at need 2", {4, 3, 2, 1}, 4, 3, 2, CAPPING_P, 2},
     {"the last of four at need 3", {4, 3, 2, 1}, 4, 3, 3, CAPPING_F, 2},

@@ -1,5 +1,6 @@
-/* Threads that call at the same time, each on a day of its own but for previews, which are all on one, with no more stack for a
- * call than capping.h says. A tool that watches threads sees what they share, however they happen to run. */
+/* Threads that call at the same time, each on a day and a fed test of its own but for previews, which are all on one day, and a fed
+ * test that all ask, with no more stack for a call than capping.h says. A tool that watches threads sees what they share, however
+ * they happen to run. */
 #include "testing.h"
 
 #include <pthread.h>
@@ -31,6 +32,9 @@ static char chain[CHAIN_ROOM];
 /* The day that all threads preview on; made before they begin. */
 static uint64_t shared_day[CAPPING_DAY_CELLS];
 
+/* The test that all threads ask, fed 5 and 5; made before they begin. */
+static uint64_t shared_fed[CAPPING_FED_CELLS];
+
 /* Tidies the starred schedules, which are tidy. Answers how much went wrong. */
 static int tidy_once(struct lent files) {
     uint8_t tidy[sizeof STARRED_SCHEDULES];
@@ -49,6 +53,18 @@ static int preview_once(struct lent files) {
     int wrong = 0;
     wrong += capping_preview(shared_day, LENT_ALL(files), 14, row, report) != 0;
     wrong += memcmp(row, expected, sizeof expected) != 0;
+    return wrong;
+}
+
+/* Feeds a test of its own with 4, 3, 2, 1, and asks it and the one that all share. Answers how much went wrong. */
+static int feed_once(void) {
+    uint64_t fed[CAPPING_FED_CELLS], left;
+    int wrong = 0;
+    capping_fed_begin(fed, 3, 2);
+    for (uint64_t amount = 4; amount > 0; amount--)
+        capping_fed_feed(fed, amount);
+    wrong += capping_fed_ask(fed, &left) != CAPPING_P || left != 2;
+    wrong += capping_fed_ask(shared_fed, &left) != CAPPING_F || left != 0;
     return wrong;
 }
 
@@ -77,7 +93,7 @@ static void *work(void *given) {
     pthread_mutex_lock(&start);
     pthread_mutex_unlock(&start);
     for (int round = 0; round < ROUNDS; round++)
-        w->wrong += work_once(w->unit, files) + preview_once(files) + tidy_once(files);
+        w->wrong += work_once(w->unit, files) + preview_once(files) + tidy_once(files) + feed_once();
     take_back(files);
     return NULL;
 }
@@ -89,6 +105,9 @@ int main(void) {
             pthread_attr_init(&small) == 0 && pthread_attr_setstacksize(&small, CALL_STACK + OWN_STACK) == 0);
     write_chain(chain, MOST_PARENTS);
     read_day(shared_day, STARRED_DAY);
+    capping_fed_begin(shared_fed, 0, 1);
+    capping_fed_feed(shared_fed, 5);
+    capping_fed_feed(shared_fed, 5);
     pthread_mutex_lock(&start);
     for (int i = 0; i < THREADS; i++) {
         workers[i].unit = 101 + (uint64_t)i;
@@ -100,7 +119,7 @@ int main(void) {
     pthread_mutex_unlock(&start);
     for (int i = 0; i < THREADS; i++) {
         pthread_join(workers[i].thread, NULL);
-        require("threads", "a wrong day, row or tidy file", workers[i].wrong == 0);
+        require("threads", "a wrong day, row, tidy file or test", workers[i].wrong == 0);
     }
     pthread_attr_destroy(&small);
     return failures == 0 ? 0 : 1;

@@ -98,6 +98,17 @@ struct study_beside {
     struct study study;
 };
 
+/* A test of one supplier: what is answered, and what is left; that stays UNTOUCHED where the test is refused. */
+struct one_test {
+    const char *name;
+    uint64_t amounts[33];
+    size_t count;
+    uint64_t place, need, verdict, left;
+};
+
+/* The largest amount that a test takes. */
+#define MOST_AMOUNT UINT64_C(1000000000000)
+
 #define DAY_BYTES (CAPPING_DAY_CELLS * sizeof(uint64_t))
 
 /* What stands before a call in each byte, and in each cell of a report, that it may write. */

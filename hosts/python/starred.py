@@ -34,8 +34,9 @@ CURVE_11_ANSWER = STARRED_ANSWER.replace(b"2,C,1030000", b"2,C,920000")
 AGAIN_ANSWER = ANSWER + b"11,1,F,0,2,C,830000\r\n12,2,F,0,1,M,330000\r\n13,3,F,0,1,C,880000\r\n14,4,F,5000000,1,M,500000\r\n"
 STARRED_DAY = "5;11:C:2,12:M:1,13:C:1,14:M:1"
 
-# The largest number that a call takes.
+# The largest number that a call takes, and the largest amount that a test takes.
 LARGEST = 2**64 - 1
+MOST_AMOUNT = 10**12
 
 
 def quoted(content):

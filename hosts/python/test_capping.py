@@ -6,9 +6,7 @@ import unittest.mock
 import capping
 from capping import engine
 from starred import AFFILIATED_ANSWER, CONSTRAINT, HOUR_5, PARENTS, SCHEDULES, STARRED, STARRED_ANSWER, STARRED_BY_NAME
-from starred import CURVE_11, CURVE_11_ANSWER, CURVES, STARRED_SCHEDULES, STARRED_SUPPLY, SUPPLY, Case, quoted
-
-MOST_AMOUNT = 10**12
+from starred import CURVE_11, CURVE_11_ANSWER, CURVES, MOST_AMOUNT, STARRED_SCHEDULES, STARRED_SUPPLY, SUPPLY, Case, quoted
 
 
 class Check(Case):

@@ -26,13 +26,17 @@ class Case(unittest.TestCase):
         for name, content in zip(NAMES, STARRED):
             (self.folder / name).write_bytes(content)
 
-    def run_command(self, *arguments, packages=PACKAGES, stdout=subprocess.PIPE):
-        command = [sys.executable, "-B", "-m", "capping", *map(str, arguments)]
-        return subprocess.run(command, cwd=packages, stdout=stdout, stderr=subprocess.PIPE, check=False)
+    def command(self, *arguments):
+        return [sys.executable, "-B", "-m", "capping", *map(str, arguments)]
 
-    def answers(self, printed, *arguments):
+    def run_command(self, *arguments, given=b"", packages=PACKAGES, stdout=subprocess.PIPE):
+        """Runs the command, which is given these bytes on standard input."""
+        command = self.command(*arguments)
+        return subprocess.run(command, cwd=packages, input=given, stdout=stdout, stderr=subprocess.PIPE, check=False)
+
+    def answers(self, printed, *arguments, **named):
         """Requires the command to print these bytes, and nothing on standard error."""
-        ran = self.run_command(*arguments)
+        ran = self.run_command(*arguments, **named)
         self.assertEqual((ran.returncode, ran.stdout, ran.stderr), (0, printed, b""))
 
     def fails(self, status, words, *arguments, **named):
@@ -413,6 +417,18 @@ class Usage(Case):
             ("release", 11),
             ("release", "-1", "--day", self.day),
             ("release", "011", "--day", self.day),
+            ("test",),
+            ("test", 3),
+            ("test", 3, 2, 4),
+            ("test", 3, 2, "--day", self.day),
+            ("test", "-1", 2),
+            ("test", "03", 2),
+            ("test", "", 2),
+            ("test", 3, "-2"),
+            ("test", 3, "02"),
+            ("test", 3, "two"),
+            ("test", 3, 2**64),
+            ("test", 3, "9" * 5000),
         ):
             self.fails(2, "usage: python3 -m capping", *arguments)
 
@@ -421,7 +437,7 @@ class Usage(Case):
         self.fails(2, f"{self.day} isn't a folder\n", "preview", 14, self.day)
 
     def test_help(self):
-        for arguments in ((), ("check",), ("study",), ("preview",), ("release",), ("tidy",)):
+        for arguments in ((), ("check",), ("study",), ("preview",), ("release",), ("tidy",), ("test",)):
             ran = self.run_command(*arguments, "--help")
             self.assertEqual((ran.returncode, ran.stderr), (0, b""))
             for words in (b"exit status:", b"  0  there", b"  1  refused", b"  2  wrong usage", b"docs/REFUSALS.md"):
@@ -442,6 +458,16 @@ class Usage(Case):
         for arguments in ((), ("tidy",)):
             printed = self.run_command(*arguments, "--help").stdout
             self.assertIn(b"that its name or --as\nsays it is", printed)
+
+    def test_help_says_where_amounts_are_read(self):
+        for arguments in ((), ("test",)):
+            printed = self.run_command(*arguments, "--help").stdout
+            self.assertIn(b"A test reads amounts from standard input, one numeral a line", printed)
+
+    def test_numbers_of_many_digits(self):
+        self.fails(1, "refused with 31: ", "preview", "9" * 5000, self.folder)
+        self.day.write_text(STARRED_DAY)
+        self.fails(1, "refused with 23: ", "release", "9" * 5000, "--day", self.day)
 
     def test_without_the_engine(self):
         packages = self.folder / "hosts" / "python"

@@ -1,20 +1,14 @@
--- From what the study, the release and the test answer to the numbers that host programs see. Assumes nothing.
+-- From what the study and the release answer to the numbers that host programs see. Assumes nothing.
 use Prim.Native.Nat.{ℕ, _≤_, _<_}
 use mathlib.Core.Path.{_≡_, refl, sym, _∙_, ap}
 use mathlib.Core.Logic.{_↔_, ⊎-elim}
 use mathlib.Core.List.{List}
 use native.Mathlib.Omega.{arith}
-use lib.Dec.{eqb}
 use lib.ListN.{length, take}
 use borrow.Author.Tests.{eq-eqb, ne-eqb}
 use Rattle.base.proofs.Tests.{eq-or-ne}
-use Rattle.base.specs.promises.Counting.{one}
 use Rattle.tables.specs.Refusals.{told}
 use Rattle.tables.specs.declared.files.Refusal.{Refusal}
-use Rattle.pivotal.specs.Test.{F, verdictLetter, finding, TestOutcome, testOutcome}
-use Rattle.pivotal.specs.declared.Answer.{Answer}
-use Rattle.pivotal.specs.declared.Answer.the-variants.{Tested, Refused as NotTested}
-use Rattle.pivotal.specs.declared.Finding.{Finding}
 use Rattle.checking.specs.Files.{Files}
 use Rattle.outcome.specs.Day.{DayView, mostRunning, releaseRefusal, released}
 use Rattle.outcome.specs.Right.{Right}
@@ -31,8 +25,6 @@ use Rattle.capping.specs.Exports.{
   DayKept,
   DayStudied,
   DayReleased,
-  testNumber,
-  testLeft,
 }
 use Rattle.engine.specs.Releasing.{releaseTold, Releases}
 use Rattle.engine.specs.Studying.{studyTold, studyCount, Studies, AnswersRight}
@@ -130,29 +122,3 @@ day-released cells kept day seen u w releases {t} answered stored held =
           (λ z. released-few d u (told-released d u z))
           (λ h. sym after ∙ ap viewOf (releases .very-day (rw (sym tells) at h)) ∙ seen);
     }
-
--- the test, by what it answered
-module _ {a : Answer} {o : TestOutcome} (answers : testOutcome a ≡ o) where
-  module _ {l : ℕ} {v : Finding} (e : a ≡ Tested l v) where
-    is : testOutcome (Tested l v) ≡ o
-    is = sym (ap testOutcome e) ∙ answers
-
-    pub tested-number : {n : ℕ} → n ≡ one (eqb (verdictLetter (finding v)) (verdictLetter F)) → n ≡ testNumber o
-    unfolding testNumber
-    tested-number g = g ∙ ap testNumber is
-
-    pub tested-left : (old : ℕ) → l ≡ testLeft o old
-    unfolding testLeft
-    tested-left old = ap (λ (x : TestOutcome). testLeft x old) is
-
-  module _ (e : a ≡ NotTested) where
-    was : testOutcome NotTested ≡ o
-    was = sym (ap testOutcome e) ∙ answers
-
-    pub refused-number : 11 ≡ testNumber o
-    unfolding testNumber
-    refused-number = ap testNumber was
-
-    pub refused-left : (old : ℕ) → old ≡ testLeft o old
-    unfolding testLeft
-    refused-left old = ap (λ (x : TestOutcome). testLeft x old) was

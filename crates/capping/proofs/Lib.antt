@@ -4,4 +4,5 @@ pub mod DayInLaws
 pub mod ExportLaws
 pub mod LayingLaws
 pub mod PreviewLaws
+pub mod TestLaws
 pub mod TidyLaws

@@ -1,3 +1,4 @@
 pub mod Days
 pub mod Exports
+pub mod Fed
 pub mod promises

@@ -1,21 +1,33 @@
 // What a call answers, as host programs are told it: number, file and place in a report of three cells,
 // and what is kept of a day in its cells. Assumes nothing.
 ghost use mathlib.Core.Path.{_≡_};
+ghost use lib.Dec.{eqb};
+ghost use Rattle.base.specs.promises.Counting.{one};
 ghost use Rattle.engine.specs.Previewing.{previewTold};
 ghost use Rattle.engine.specs.Releasing.{releaseTold};
 ghost use Rattle.engine.specs.Studying.{studyTold, studyCount};
 ghost use Rattle.engine.specs.View.{viewOf};
+ghost use Rattle.pivotal.specs.Test.{F, finding, verdictLetter, testOutcome};
 ghost use Rattle.tables.specs.Refusals.{bareRefusal};
 ghost use Rattle.tidy.specs.promises.Tidies.{tidyTold, tidyCount};
-ghost use Rattle.capping.specs.Exports.{reported, cellsAfter};
+ghost use Rattle.capping.specs.Exports.{reported, cellsAfter, testNumber, testLeft};
 use crate::days::CELLS;
 use crate::days::lay_down;
 use engine::Day;
 use engine::Preview;
 use engine::Release;
 use engine::Study;
+use pivotal::Answer;
+use pivotal::Finding;
 use tables::Refusal;
 use tidy::Tidy;
+
+// What the test answers by numbers.
+const PASSED: u64 = 0;
+
+const FAILED: u64 = 1;
+
+const TEST_REFUSED: u64 = 11;
 
 // Number, file and place of what a study answered.
 pub(crate) fn told_by_study(study: Study) -> Refusal
@@ -85,6 +97,29 @@ pub(crate) fn tidy_count(tidy: Tidy) -> u64
     match tidy {
         Tidy::Written(count) => count as u64,
         Tidy::Refused(_) => 0,
+    }
+}
+
+// What the test answered: 0 for P and 1 for F, with what is left stored, or 11.
+pub(crate) fn told_by_test(answer: Answer, left: &mut u64) -> u64
+    ensures { λ r. ⌜ r ≡ testNumber (testOutcome answer) ⌝ }
+    ensures { λ r. ⌜ now (left .exit) ≡ testLeft (testOutcome answer) (now (left .entry)) ⌝ }
+{
+    match answer {
+        Answer::Tested(remains, found) => {
+            *left = remains;
+            number_of(found)
+        }
+        Answer::Refused => TEST_REFUSED,
+    }
+}
+
+fn number_of(found: Finding) -> u64
+    ensures { λ r. ⌜ r ≡ one (eqb (verdictLetter (finding found)) (verdictLetter F)) ⌝ }
+{
+    match found {
+        Finding::Passes => PASSED,
+        Finding::Fails => FAILED,
     }
 }
 

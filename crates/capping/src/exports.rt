@@ -1,26 +1,16 @@
 // The study and the test for host programs. Assumes nothing: of the files, the buffer, the report,
 // the amounts, the place and the need.
 ghost use mathlib.Core.Path.{_≡_};
-ghost use lib.Dec.{eqb};
 ghost use Rattle.checking.specs.Files.{files};
 ghost use Rattle.outcome.specs.Day.{freshDay};
 ghost use Rattle.outcome.specs.Study.{studied};
-ghost use Rattle.pivotal.specs.Test.{F, finding, verdictLetter, tested};
+ghost use Rattle.pivotal.specs.Test.{tested};
 ghost use Rattle.capping.specs.Exports.{StudyTold, ToldRight, testNumber, testLeft};
-ghost use Rattle.base.specs.promises.Counting.{one};
 use crate::calls::count_of;
 use crate::calls::report_on;
 use crate::calls::told_by_study;
+use crate::calls::told_by_test;
 use engine::Day;
-use pivotal::Answer;
-use pivotal::Finding;
-
-// What the test answers by numbers.
-const PASSED: u64 = 0;
-
-const FAILED: u64 = 1;
-
-const TEST_REFUSED: u64 = 11;
 
 // Studies a fresh day; curves or parents of no bytes are none. Answers how many bytes were written, 0 where it is
 // refused; the report is number, file and place, all 0 where it is accepted.
@@ -50,21 +40,5 @@ pub extern "C" fn capping_test(amounts: &[u64], place: u64, need: u64, left: &mu
     ensures { λ r. ⌜ r ≡ testNumber (tested (now (amounts .entry)) place need) ⌝ }
     ensures { λ r. ⌜ now (left .exit) ≡ testLeft (tested (now (amounts .entry)) place need) (now (left .entry)) ⌝ }
 {
-    let answer = pivotal::test(amounts, place as usize, need);
-    match answer {
-        Answer::Tested(remains, found) => {
-            *left = remains;
-            number_of(found)
-        }
-        Answer::Refused => TEST_REFUSED,
-    }
-}
-
-fn number_of(found: Finding) -> u64
-    ensures { λ r. ⌜ r ≡ one (eqb (verdictLetter (finding found)) (verdictLetter F)) ⌝ }
-{
-    match found {
-        Finding::Passes => PASSED,
-        Finding::Fails => FAILED,
-    }
+    told_by_test(pivotal::test(amounts, place as usize, need), left)
 }

@@ -2,24 +2,34 @@
 use Prim.Native.Nat.{ℕ, _≤_, _<_}
 use mathlib.Core.Path.{_≡_, refl, sym, _∙_, ap}
 use mathlib.Core.Bool.{Bool, true, false}
-use mathlib.Core.List.{List}
+use mathlib.Core.List.{List, List·Memᴰ}
 use native.Mathlib.Omega.{arith}
 use lib.ListN.{length, take, length-map, length-take}
+use Rattle.base.proofs.Members.{member-at}
 use Rattle.numbers.specs.Numbers.{placeOf}
+use Rattle.numbers.proofs.SearchLaws.{place-holds}
 use Rattle.tables.specs.Rows.{SupplyRow}
 use Rattle.tables.specs.declared.constraint.ConstraintRow.{ConstraintRow}
 use Rattle.tables.specs.promises.FlatRows.{supplyRows}
+use Rattle.cells.specs.promises.Views.{supplyAt}
 use Rattle.cells.proofs.RowViews.{supply-length}
 use Rattle.market.specs.Clearing.{needOf, clearing}
 use Rattle.market.specs.Parties.{party, parties, amountOf, amounts}
+use Rattle.market.specs.Removals.{PartyOf}
 use Rattle.market.proofs.AmountLaws.{amounts-limited}
-use Rattle.pivotal.specs.promises.Tally.{Limited}
-use Rattle.pivotal.specs.Test.{left, pivotal, U, P, F, verdictLetter}
+use Rattle.market.proofs.LeastOverRows.{party-place}
+use Rattle.offers.specs.Supply.{noRow, rowAt}
+use Rattle.offers.proofs.CellLaws.{row-at}
+use Rattle.pivotal.specs.Test.{left, testVerdict, U, P, F, verdictLetter, finding, testOutcome, tested}
+use Rattle.pivotal.specs.declared.Answer.{Answer}
+use Rattle.pivotal.specs.declared.Answer.the-variants.{Tested, Refused}
+use Rattle.pivotal.specs.declared.Finding.{Finding}
+use Rattle.pivotal.proofs.Limits.{Limited, answered, not-refused}
 use Rattle.choice.specs.Exposure.{exposed}
 use Rattle.outcome.specs.Decision.{unitRow, untested, leftOf, verdictOf, leftShown, hasRelevant, hasEligible, exposedUnit}
 use Rattle.decision.specs.promises.Standing.{MarketCells, standing, Stands}
 use Rattle.decision.specs.promises.Testing.{unitTest, InMarket}
-use Rattle.decision.specs.promises.Units.{anyOf, wantedRow}
+use Rattle.decision.specs.promises.Units.{UnitFound, anyOf, wantedRow}
 use Rattle.decision.specs.declared.standing.Standing.{Standing}
 use Rattle.decision.specs.declared.standing.Standing.the-variants.{Short, Cleared}
 use Rattle.decision.specs.declared.units.Wanted.the-variants.{Eligible, Relevant}
@@ -88,19 +98,19 @@ module _ (c : ConstraintRow) (supply : List SupplyRow) (u : ℕ) (w : SupplyRow)
 
   module _ (enough : untested c supply ≡ false) (remains : ℕ) (l : remains ≡ leftOf c supply (party (unitRow supply u))) where
     pub test-failed :
-        pivotal remains (needOf (c .relief)) ≡ true → (e : Bool) → e ≡ hasRelevant c supply u →
+        F ≡ testVerdict remains (needOf (c .relief)) → (e : Bool) → e ≡ hasRelevant c supply u →
         record { unit = u; supplier = x; verdict = verdictLetter F; left = remains; exposed = e } ≡ unitTest c supply u
     unfolding unitTest verdictOf leftShown exposedUnit exposed
     test-failed f e g =
-        let fails : pivotal (leftOf c supply (party (unitRow supply u))) (needOf (c .relief)) ≡ true = rw l at f in
+        let fails : testVerdict (leftOf c supply (party (unitRow supply u))) (needOf (c .relief)) ≡ F = sym (rw l at f) in
         simp (enough, fails, g, supplier-shown, l)
 
     pub test-passed :
-        pivotal remains (needOf (c .relief)) ≡ false →
+        P ≡ testVerdict remains (needOf (c .relief)) →
         record { unit = u; supplier = x; verdict = verdictLetter P; left = remains; exposed = false } ≡ unitTest c supply u
     unfolding unitTest verdictOf leftShown exposedUnit exposed
     test-passed f =
-        let passes : pivotal (leftOf c supply (party (unitRow supply u))) (needOf (c .relief)) ≡ false = rw l at f in
+        let passes : testVerdict (leftOf c supply (party (unitRow supply u))) (needOf (c .relief)) ≡ P = sym (rw l at f) in
         simp (enough, passes, supplier-shown, l)
 
 -- what is asked for, as the code asks it
@@ -124,14 +134,42 @@ module _
     pub market-clears : q < n
     market-clears = omega (arith, in-market .clears, clears-within c n cells market (in-market .enough))
 
-    pub market-limited : Limited amounts′
+    market-limited : Limited amounts′
     market-limited =
         rw (in-market .all-amounts)
         (amounts-limited _ _ (supplyRows n cells) (market .rows .permitted) (omega (arith, supply-length n cells, market .rows .few)) (market .few-parties))
 
-    pub remains-left :
-        (u : ℕ) (w : SupplyRow) → w ≡ unitRow (supplyRows n cells) u → (k place remains : ℕ) → k ≡ party w → place ≡ placeOf k ps →
-        remains ≡ left amounts′ place →
-        remains ≡ leftOf c (supplyRows n cells) (party (unitRow (supplyRows n cells) u))
-    unfolding leftOf
-    remains-left u w found k place remains a b d = d ∙ rw (b, a, found, in-market .all-parties, in-market .all-amounts)
+    -- the test of the party of a unit, whose row was found
+    module _
+        (u row : ℕ) (found : UnitFound u n cells row) {k place need : ℕ}
+        (its : k ≡ party (supplyAt cells row)) (placed : place ≡ placeOf k ps) (needed : need ≡ needOf (c .relief))
+      where
+        row-there : List·Memᴰ (supplyAt cells row) (supplyRows n cells)
+        unfolding rowAt
+        row-there =
+            rw (← row-at n cells row (found .within))
+            (member-at noRow (supplyRows n cells) row (omega (arith, found .within, supply-length n cells)))
+
+        -- it has a place among the amounts
+        party-there : place < length amounts′
+        unfolding amounts
+        party-there =
+            let k′ = party (supplyAt cells row) in
+            let its-party : PartyOf (supplyRows n cells) k′ = record { row = supplyAt cells row; a-row = row-there; its-party = refl } in
+            rw (placed, its, in-market .all-parties, in-market .all-amounts, length-map)
+            (place-holds k′ (parties (supplyRows n cells)) (party-place (supplyRows n cells) k′ its-party) .0)
+
+        remains-left : left amounts′ place ≡ leftOf c (supplyRows n cells) (party (unitRow (supplyRows n cells) u))
+        unfolding leftOf
+        remains-left = rw (placed, its, found .found, in-market .all-parties, in-market .all-amounts)
+
+        module _ {r : Answer} (answers : testOutcome r ≡ tested amounts′ place need) where
+          pub party-tested :
+              {l : ℕ} {v w : Finding} → r ≡ Tested l v → v ≡ w →
+              (l ≡ leftOf c (supplyRows n cells) (party (unitRow (supplyRows n cells) u))) × (finding w ≡ testVerdict l (needOf (c .relief)))
+          party-tested {l} {v} e f =
+              let (remains, verdict) = answered amounts′ place need market-limited party-there l v (sym (ap testOutcome e) ∙ answers) in
+              (remains ∙ remains-left, rw (← f, remains, ← needed) verdict)
+
+          pub party-not-refused : r ≡ Refused → ⊥
+          party-not-refused e = not-refused amounts′ place need market-limited party-there (sym (ap testOutcome e) ∙ answers)

@@ -18,8 +18,9 @@ use market::need_of;
 use market::party;
 use numbers::place_of;
 use offers::supplier;
-use pivotal::left;
-use pivotal::pivotal;
+use pivotal::Answer;
+use pivotal::Finding;
+use pivotal::test;
 use tables::ConstraintRow;
 
 // The most units of a supply file.
@@ -155,28 +156,37 @@ fn test_in_market(
     requires { ⌜ InMarket constraint (supplyRows n (now cells)) clearing (now parties) (now amounts) ⌝ }
     ensures { λ r. ⌜ r ≡ unitTest constraint (supplyRows n (now (cells .entry))) unit ⌝ }
 {
-    let remains = left(amounts, place_of(party(cells, row), parties));
-    if pivotal(remains, need_of(constraint.relief)) {
-        return UnitTest {
-            unit,
-            supplier: supplier(cells, row),
-            verdict: F,
-            left: remains,
-            exposed: has_wanted(
-                cells,
-                n,
+    let own = supplier(cells, row);
+    let place = place_of(party(cells, row), parties);
+    let tested = test(amounts, place, need_of(constraint.relief));
+    match tested {
+        Answer::Tested(left, found) => match found {
+            Finding::Fails => {
+                let wanted = Wanted::Relevant(clearing);
+                let exposed = has_wanted(cells, n, unit, row, constraint.cutoff, wanted);
+                UnitTest {
+                    unit,
+                    supplier: own,
+                    verdict: F,
+                    left,
+                    exposed,
+                }
+            }
+            Finding::Passes => UnitTest {
                 unit,
-                row,
-                constraint.cutoff,
-                Wanted::Relevant(clearing),
-            ),
-        };
-    }
-    UnitTest {
-        unit,
-        supplier: supplier(cells, row),
-        verdict: P,
-        left: remains,
-        exposed: false,
+                supplier: own,
+                verdict: P,
+                left,
+                exposed: false,
+            },
+        },
+        // Never so: the amounts of so few parties are within the test's limits.
+        Answer::Refused => UnitTest {
+            unit,
+            supplier: own,
+            verdict: U,
+            left: 0,
+            exposed: false,
+        },
     }
 }

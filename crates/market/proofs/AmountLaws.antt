@@ -1,18 +1,22 @@
 -- The limits under which the test takes the amounts of the parties. Assumes nothing.
-use Prim.Native.Nat.{ℕ, zero, suc, _^_, _≤_}
+use Prim.Native.Nat.{ℕ, _≤_}
+use mathlib.Core.Path.{_≡_, refl}
+use mathlib.Core.Bool.{false}
 use mathlib.Core.List.{List, [], _∷_, map, List·Memᴰ}
 use native.Mathlib.Omega.{arith}
-use lib.ListN.{length, getD, length-map}
+use lib.ListN.{length, length-map}
+use borrow.Author.Tests.{le-ltb}
 use Rattle.tables.specs.promises.Ranges.{PermittedSupply}
 use Rattle.tables.specs.Rows.{SupplyRow}
-use Rattle.pivotal.specs.promises.Tally.{Limited}
+use Rattle.pivotal.specs.Test.{mostAmount, tooLarge}
+use Rattle.pivotal.proofs.Limits.{Limited}
 use Rattle.offers.proofs.RangeLaws.{supply-of-small}
 use Rattle.market.specs.Parties.{parties, relevantOf, amountOf, amounts}
 
-map-small : (f : ℕ → ℕ) (m : ℕ) → ((k : ℕ) → f k ≤ m) → (ks : List ℕ) (i : ℕ) → getD (map f ks) i 0 ≤ m
-map-small f m h [] i = omega arith
-map-small f m h (k ∷ ks) zero = h k
-map-small f m h (k ∷ ks) (suc i) = map-small f m h ks i
+map-small : (f : ℕ → ℕ) → ((k : ℕ) → f k ≤ mostAmount) → (ks : List ℕ) → tooLarge (map f ks) ≡ false
+unfolding tooLarge
+map-small f h [] = refl
+map-small f h (k ∷ ks) = rw (le-ltb mostAmount (f k) (h k)) (map-small f h ks)
 
 -- the test takes the amounts of up to 32 parties
 pub amounts-limited :
@@ -22,5 +26,5 @@ unfolding amounts amountOf
 amounts-limited cutoff q rows h few of-few =
     record {
       few = rw length-map of-few;
-      small = map-small (amountOf cutoff q rows) (10 ^ 12) (λ k. omega (arith, supply-of-small (relevantOf cutoff q k) rows h)) (parties rows);
+      small = map-small (amountOf cutoff q rows) (λ k. omega (arith, supply-of-small (relevantOf cutoff q k) rows h)) (parties rows);
     }

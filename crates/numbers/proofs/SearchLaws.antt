@@ -3,15 +3,17 @@ use Prim.Native.Nat.{ℕ, suc, _+_, _≤_, _<_}
 use mathlib.Core.Path.{_≡_, refl, sym, _∙_}
 use mathlib.Core.Bool.{true, false}
 use mathlib.Core.List.{List, _∷_}
-use mathlib.Core.Option.{Option·getD}
+use mathlib.Core.Option.{Option, Option·getD}
 use native.Mathlib.Omega.{arith}
 use lib.Dec.{eqb}
 use lib.ListN.{length, getD, take, drop}
 use lib.Seq.{getD-take, length-take-le}
-use borrow.Author.Tests.{eq-eqb, ne-eqb}
+use borrow.Author.Tests.{eqb-true, eq-eqb, ne-eqb}
 use Rattle.base.specs.Rising.{among}
 use Rattle.base.specs.Search.{first}
 use Rattle.base.proofs.Lists.{drop-next, drop-end}
+use Rattle.base.proofs.Members.{Finds, it, nothing, finds, member-at}
+use Rattle.base.proofs.Tests.{false-true}
 use Rattle.numbers.specs.Numbers.{placeOf}
 
 -- the first n numbers from i on, taken apart
@@ -72,3 +74,18 @@ module _ (k : ℕ) (list : List ℕ) where
     pub sought-over : length list ≤ i → 0 ≡ placeOf k list
     unfolding Sought first
     sought-over h = sym (sought ∙ rw (drop-end i list h))
+
+-- the place of a number that is among some
+pub place-holds :
+    (k : ℕ) (ks : List ℕ) → (i : ℕ) × (i < length ks) × (getD ks i 0 ≡ k) →
+    (placeOf k ks < length ks) × (getD ks (placeOf k ks) 0 ≡ k)
+unfolding placeOf
+place-holds k ks (i, h, e) = go (finds 0 (λ (j : ℕ). eqb j k) 0 ks)
+  where
+    go :
+        {o : Option ℕ} → Finds 0 (λ (j : ℕ). eqb j k) 0 ks o →
+        (Option·getD o 0 < length ks) × (getD ks (Option·getD o 0) 0 ≡ k)
+    go (it j l f) =
+        let place : 0 + j ≡ j = omega arith in
+        rw place (l, eqb-true (getD ks j 0) k f)
+    go (nothing n) = false-true (sym (n (getD ks i 0) (member-at 0 ks i h)) ∙ eq-eqb (getD ks i 0) k e)

@@ -1,21 +1,19 @@
 -- Demand 3 on the verdict and the amount left, for any party of some supply rows: what the test decides is right, and
 -- nothing else is. A cutoff and a need at least 1, as the table has them. Assumes nothing.
-use Prim.Native.Nat.{ℕ, _+_, _≤_, _<_}
-use mathlib.Core.Path.{_≡_, refl, sym, _∙_}
+use Prim.Native.Nat.{ℕ, _≤_, _<_}
+use mathlib.Core.Path.{_≡_, refl, _∙_}
 use mathlib.Core.Logic.{_≢_}
 use mathlib.Core.Bool.{Bool, true, false, cond}
 use mathlib.Core.List.{List}
-use mathlib.Core.Option.{Option, Option·getD}
 use native.Mathlib.Omega.{arith}
-use lib.Dec.{eqb, ltb}
+use lib.Dec.{ltb}
 use lib.ListN.{length, getD}
-use borrow.Author.Tests.{ltb-true, ltb-false, le-ltb, eqb-true, eq-eqb}
-use Rattle.base.proofs.Members.{Finds, it, nothing, finds, member-at}
-use Rattle.base.proofs.Tests.{false-true}
+use borrow.Author.Tests.{ltb-true, ltb-false, le-ltb}
 use Rattle.tables.specs.Rows.{SupplyRow}
 use Rattle.tables.specs.declared.constraint.ConstraintRow.{ConstraintRow}
 use Rattle.market.specs.Clearing.{eligibleSupply, short, needOf}
 use Rattle.numbers.specs.Numbers.{placeOf}
+use Rattle.numbers.proofs.SearchLaws.{place-holds}
 use Rattle.market.specs.Parties.{parties}
 use Rattle.market.specs.Removals.{PartyOf, Removes, remaining}
 use Rattle.market.proofs.ClearingLaws.{clearing-clears}
@@ -24,21 +22,6 @@ use Rattle.pivotal.specs.Test.{pivotal, Verdict, U, P, F, verdictLetter}
 use Rattle.outcome.specs.Decision.{untested, cleared, leftOf, verdictOf, leftShown}
 use Rattle.outcome.specs.Right.{Clearing, RightTest}
 use Rattle.outcome.proofs.OneMarket.{remaining-same}
-
--- the place of a number that is among some
-place-holds :
-    (k : ℕ) (ks : List ℕ) → (i : ℕ) × (i < length ks) × (getD ks i 0 ≡ k) →
-    (placeOf k ks < length ks) × (getD ks (placeOf k ks) 0 ≡ k)
-unfolding placeOf
-place-holds k ks (i, h, e) = go (finds 0 (λ (j : ℕ). eqb j k) 0 ks)
-  where
-    go :
-        {o : Option ℕ} → Finds 0 (λ (j : ℕ). eqb j k) 0 ks o →
-        (Option·getD o 0 < length ks) × (getD ks (Option·getD o 0) 0 ≡ k)
-    go (it j l f) =
-        let place : 0 + j ≡ j = omega arith in
-        rw place (l, eqb-true (getD ks j 0) k f)
-    go (nothing n) = false-true (sym (n (getD ks i 0) (member-at 0 ks i h)) ∙ eq-eqb (getD ks i 0) k e)
 
 module _ (c : ConstraintRow) (rows : List SupplyRow) (k : ℕ) (p : PartyOf rows k) where
   -- what the test leaves of the market of the row that was found to clear

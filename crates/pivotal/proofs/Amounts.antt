@@ -7,12 +7,12 @@ use mathlib.Core.List.{List, [], _∷_}
 use native.Mathlib.Nat.{add-comm}
 use native.Mathlib.Omega.{arith}
 use lib.Dec.{ltb}
-use lib.ListN.{length, getD, set, drop, List·getD-eq-default}
+use lib.ListN.{length, getD, set, List·getD-eq-default}
 use lib.Seq.{getD-set-other}
 use borrow.Author.Needs.{needs}
 use borrow.Author.Tests.{ltb-true, ltb-false}
-use Rattle.base.proofs.Lists.{drop-next, drop-end}
-use Rattle.pivotal.specs.Test.{total, Largest, noLargest, largestWith, largestAfter}
+use Rattle.pivotal.specs.declared.feeding.Largest.{Largest}
+use Rattle.pivotal.specs.Test.{total, noLargest, largestWith, largestAfter}
 
 -- an amount taken away is missing from the total
 pub total-set : (s : List ℕ) (q : ℕ) → total (set s q 0) + getD s q 0 ≡ total s
@@ -33,43 +33,13 @@ set-gone [] p = refl
 set-gone (a ∷ s) zero = refl
 set-gone (a ∷ s) (suc p) = set-gone s p
 
-pub gone-at : (s : List ℕ) (p i : ℕ) → i ≡ p → 0 ≡ getD (set s p 0) i 0
-gone-at s p i e = rw e (sym (set-gone s p))
-
--- no amount grows when one is taken away
-pub set-below : (s : List ℕ) (p i : ℕ) → getD (set s p 0) i 0 ≤ getD s i 0
-set-below [] p i = omega arith
-set-below (a ∷ s) zero zero = omega arith
-set-below (a ∷ s) zero (suc i) = omega arith
-set-below (a ∷ s) (suc p) zero = omega arith
-set-below (a ∷ s) (suc p) (suc i) = set-below s p i
-
--- a total and the two largest, taken one amount further
-module _ (s : List ℕ) (i : ℕ) (h : i < length s) where
-  pub total-next : total (drop i s) ≡ getD s i 0 + total (drop (i + 1) s)
-  unfolding total
-  total-next = rw (drop-next 0 i s h)
-
-  pub largest-next : (l : Largest) → largestAfter l (drop i s) ≡ largestAfter (largestWith l (getD s i 0)) (drop (i + 1) s)
-  unfolding largestAfter
-  largest-next l = rw (drop-next 0 i s h)
-
-module _ (s : List ℕ) (i : ℕ) (h : length s ≤ i) where
-  pub total-end : total (drop i s) ≡ 0
-  unfolding total
-  total-end = rw (drop-end i s h)
-
-  pub largest-end : (l : Largest) → largestAfter l (drop i s) ≡ l
-  unfolding largestAfter
-  largest-end l = rw (drop-end i s h)
-
 -- the two largest together
 unfoldable pub both : Largest → ℕ
 both l = l .first + l .second
 
 -- the three ways of feeding an amount
 module _ (l : Largest) (a : ℕ) (Q : Largest → Type 0) where
-  pub largest-cases :
+  largest-cases :
       (l .first < a → Q (record { first = a; second = l .first })) →
       (a ≤ l .first → l .second < a → Q (record { first = l .first; second = a })) →
       (a ≤ l .first → a ≤ l .second → Q l) →
@@ -91,7 +61,6 @@ record Feeds (l : Largest) (a : ℕ) (m : Largest) : Type 0 where
   reached : a ≤ m .first
   as-much : both l ≤ both m
   with-it : l .first + a ≤ both m
-  no-more : both m ≤ both l + a
   first-from : (m .first ≡ l .first) ⊎ (m .first ≡ a)
   both-from : (both m ≡ both l) ⊎ (both m ≡ l .first + a)
 
@@ -108,7 +77,6 @@ record Tops (l : Largest) (s : List ℕ) (n : ℕ) : Type 0 where
   earlier : both l ≤ n
   one : (q : ℕ) → l .first + getD s q 0 ≤ n
   two : (q r : ℕ) → q ≢ r → getD s q 0 + getD s r 0 ≤ n
-  no-more : n ≤ both l + total s
 
 module _ {l : Largest} {a : ℕ} {s : List ℕ} {m : Largest} {n : ℕ} (f : Feeds l a m) (t : Tops m s n) where
   tops-one : (q : ℕ) → l .first + getD (a ∷ s) q 0 ≤ n
@@ -122,18 +90,11 @@ module _ {l : Largest} {a : ℕ} {s : List ℕ} {m : Largest} {n : ℕ} (f : Fee
   tops-two (suc q) (suc r) h = t .two q r (λ e. h (ap suc e))
 
   tops-more : Tops l (a ∷ s) n
-  unfolding total
-  tops-more =
-      record {
-        earlier = omega (arith, f .as-much, t .earlier);
-        one = tops-one;
-        two = tops-two;
-        no-more = omega (arith, f .no-more, t .no-more);
-      }
+  tops-more = record { earlier = omega (arith, f .as-much, t .earlier); one = tops-one; two = tops-two }
 
 tops : (l : Largest) (s : List ℕ) → l .second ≤ l .first → Tops l s (both (largestAfter l s))
-unfolding largestAfter total both
-tops l [] o = record { earlier = omega arith; one = λ q. omega arith; two = λ q r h. omega arith; no-more = omega arith }
+unfolding largestAfter both
+tops l [] o = record { earlier = omega arith; one = λ q. omega arith; two = λ q r h. omega arith }
 tops l (a ∷ s) o =
     let f = feeds l a o in
     tops-more f (tops (largestWith l a) s (f .ordered))
@@ -172,10 +133,6 @@ module _ (s : List ℕ) where
 
   pub largest-two : (q r : ℕ) → q ≢ r → getD s q 0 + getD s r 0 ≤ largestTwo s
   largest-two = all-tops .two
-
-  pub largest-within : largestTwo s ≤ total s
-  unfolding noLargest both
-  largest-within = omega (arith, all-tops .no-more)
 
   past : (q : ℕ) → length s ≤ q → getD s q 0 ≡ 0
   past q h = List·getD-eq-default s 0 h

@@ -1,7 +1,9 @@
 pub mod Amounts
+pub mod Computed
+pub mod FeedingLaws
 pub mod Least
 pub mod Limits
 pub mod Numbered
-pub mod Passes
+pub mod OneMore
 pub mod Removal
 pub mod Suppliers

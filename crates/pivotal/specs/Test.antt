@@ -12,6 +12,7 @@ use Rattle.pivotal.specs.declared.Answer.{Answer}
 use Rattle.pivotal.specs.declared.Answer.the-variants.{Tested, Refused}
 use Rattle.pivotal.specs.declared.Finding.{Finding}
 use Rattle.pivotal.specs.declared.Finding.the-variants.{Passes, Fails}
+use Rattle.pivotal.specs.declared.feeding.Largest.{Largest}
 
 -- the verdicts: the test cannot be performed, passed, failed; and their letters
 pub data Verdict : Type 0 where
@@ -28,12 +29,7 @@ unfoldable pub total : List ℕ → ℕ
 total [] = 0
 total (a ∷ s) = a + total s
 
--- the two largest of some amounts, 0 where fewer exist
-pub record Largest : Type 0 where
-  pub first : ℕ
-  pub second : ℕ
-
--- the two largest of no amounts
+-- the two largest of no amounts: 0 where fewer exist
 unfoldable pub noLargest : Largest
 noLargest = record { first = 0; second = 0 }
 

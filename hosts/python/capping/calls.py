@@ -2,11 +2,15 @@
 import ctypes
 import functools
 
-from .engine import LONGEST_ANSWER, LONGEST_TIDY, MOST_64_BIT, functions, lent, written_by
+from .engine import LONGEST_ANSWER, LONGEST_TIDY, MOST_64_BIT, functions, lent, lent_number, written_by
 from .refusal import FILE_NUMBERS, Refused
 
 TEST_REFUSED = 11
 VERDICTS = {0: "P", 1: "F"}
+
+# What is lent for an amount or a place that isn't of 64 bits: as an amount it is above 10^12, and as a place past every list of at
+# most 32, so that it is refused with 11 as the number itself would be.
+OUT_OF_LIMITS = MOST_64_BIT
 
 
 def check(constraint, supply, schedules):
@@ -35,14 +39,29 @@ def tidy(file, data, room=None):
 
 def test(amounts, place, need):
     """Tests the supplier at `place`, counted from 0: what is left without it and its two largest others, and P or F."""
-    amounts = list(amounts)
-    if not (0 <= need <= MOST_64_BIT):
-        raise ValueError("the need is a 64-bit number")
-    if not all(0 <= number <= MOST_64_BIT for number in (*amounts, place)):
-        raise Refused(TEST_REFUSED)
+    place, need = lent_to_test(place), lent_need(need)
+    amounts = [lent_to_test(amount) for amount in amounts]
     run = (ctypes.c_uint64 * max(len(amounts), 1))(*amounts)
+    return tested(functools.partial(functions().capping_test, run, len(amounts), place, need))
+
+
+def lent_to_test(number):
+    """An amount or a place as a test takes it."""
+    return lent_number(number, OUT_OF_LIMITS)
+
+
+def lent_need(need):
+    """A need as a test takes it. No refusal speaks of one that isn't of 64 bits, so it is a wrong argument."""
+    need = lent_number(need, beyond=None)
+    if need is None:
+        raise ValueError("the need is a 64-bit number")
+    return need
+
+
+def tested(call):
+    """What a test answers: what is left, and P or F; `call` lacks only where to store what is left."""
     left = ctypes.c_uint64(0)
-    answer = functions().capping_test(run, len(amounts), place, need, ctypes.byref(left))
+    answer = call(ctypes.byref(left))
     if answer == TEST_REFUSED:
         raise Refused(TEST_REFUSED)
     return left.value, VERDICTS[answer]

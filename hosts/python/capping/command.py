@@ -1,13 +1,15 @@
-"""The command for people: checks and studies the files of a folder, or looks at one unit of theirs, keeps a day in a file, and
-hands a file back tidy."""
+"""The command for people: checks and studies the files of a folder, or looks at one unit of theirs, keeps a day in a file, hands a
+file back tidy, and tests one supplier on amounts that it is fed."""
 import contextlib
 import os
 import sys
 
 from . import columns, usage
+from .amounts import Given
 from .calls import tidy
 from .day import Day
 from .explain import explained
+from .fed import FedTest
 from .files import TooLong, Unreadable, naming, read_day, read_file, read_folder, replacing
 from .refusal import Refused
 from .row import HEADER
@@ -54,14 +56,14 @@ def _study(asked):
 def _preview(asked):
     day = _day_so_far(asked.day)
     files = read_folder(asked.folder, columns.FILES)
-    with _telling(files, day):
+    with _telling(explained, files, day):
         row = day.preview(**files, unit=asked.unit)
     _print(f"{HEADER}\r\n{row}\r\n".encode())
 
 
 def _release(asked):
     day = read_day(asked.day)
-    with _telling({}, day):
+    with _telling(explained, {}, day):
         day.release(asked.unit)
     with replacing(asked.day, day):
         pass
@@ -69,12 +71,20 @@ def _release(asked):
 
 def _tidy(asked):
     content = read_file(asked.path)
-    with _telling({asked.file: content}, Day.fresh()):
+    with _telling(explained, {asked.file: content}, Day.fresh()):
         tidied = tidy(asked.file, content)
     _print(tidied)
 
 
-COMMANDS = {"check": _check, "study": _study, "preview": _preview, "release": _release, "tidy": _tidy}
+def _test(asked):
+    fed, given = FedTest(asked.place, asked.need), Given()
+    fed.extend(given)
+    with _telling(given.explained, asked.place):
+        left, verdict = fed.ask()
+    _print(f"{left},{verdict}\n".encode())
+
+
+COMMANDS = {"check": _check, "study": _study, "preview": _preview, "release": _release, "tidy": _tidy, "test": _test}
 
 
 def _day_so_far(path):
@@ -88,16 +98,17 @@ def _day_so_far(path):
 
 
 def _studied(day, files):
-    with _telling(files, day):
+    with _telling(explained, files, day):
         return day.study(**files)
 
 
 @contextlib.contextmanager
-def _telling(files, day):
+def _telling(explanation, *given):
+    """Lets a refusal be told in plain words: in the lines of an explanation of what was given."""
     try:
         yield
     except Refused as refused:
-        raise Told("\n".join(explained(refused, files, day))) from refused
+        raise Told("\n".join(explanation(refused, *given))) from refused
 
 
 def _print(content):

@@ -1,10 +1,10 @@
 """A day, which studies and releases move on and previews look at. Assumes nothing of its cells: the engine refuses an ill-formed
 day with 24."""
 import functools
-import operator
 
 from . import words
-from .engine import DAY_CELLS, LONGEST_ANSWER, MOST_64_BIT, DayCells, Report, RowCells, functions, lent, refuse, written_by
+from .engine import LONGEST_ANSWER, DayCells, Report, RowCells, functions, lent, lent_number, refuse, written_by
+from .kept import Kept
 from .row import stored
 from .view import lay_down, seen
 
@@ -12,7 +12,7 @@ from .view import lay_down, seen
 NO_UNIT = 0
 
 
-class Day:
+class Day(Kept):
     """A day: the hour of its last study, and the running units.
 
     A refused call raises `Refused` and leaves the day as it was. Threads may each use a day of their own at once. Days are
@@ -20,7 +20,9 @@ class Day:
     reads them: they are what to keep where a day outlives a program.
     """
 
-    __slots__ = ("_cells",)
+    __slots__ = ()
+    _Cells = DayCells
+    _WHAT = "a day"
 
     def __init__(self):
         self._cells = DayCells()
@@ -32,26 +34,11 @@ class Day:
         return cls()
 
     @classmethod
-    def from_cells(cls, cells):
-        """The day that stored cells are."""
-        cells = tuple(cells)
-        if len(cells) != DAY_CELLS or not all(0 <= cell <= MOST_64_BIT for cell in cells):
-            raise ValueError(f"a day is {DAY_CELLS} numbers of 64 bits")
-        day = cls()
-        day._cells[:] = cells
-        return day
-
-    @classmethod
     def parse(cls, text):
         """The day whose words these are; a ValueError says what is wrong with them."""
         day = cls()
         lay_down(words.read(text), day._cells)
         return day
-
-    @property
-    def cells(self):
-        """The cells, to store."""
-        return tuple(self._cells)
 
     @property
     def hour(self):
@@ -78,14 +65,14 @@ class Day:
         day stays as it is. What that study is refused with, this is too, and else with 31 where the unit isn't in supply."""
         files = lent(constraint, supply, schedules, curves, parents)
         row, report = RowCells(), Report()
-        functions().capping_preview(self._cells, *files, _lent_number(unit), row, report)
+        functions().capping_preview(self._cells, *files, lent_number(unit, NO_UNIT), row, report)
         refuse(report)
         return stored(row)
 
     def release(self, unit):
         """Takes a running unit out, and changes nothing else."""
         cells, report = self._copied(), Report()
-        functions().capping_day_release(cells, _lent_number(unit), report)
+        functions().capping_day_release(cells, lent_number(unit, NO_UNIT), report)
         refuse(report)
         self._cells = cells
 
@@ -103,12 +90,3 @@ class Day:
         return seen(self._cells) == seen(other._cells) if isinstance(other, Day) else NotImplemented
 
     __hash__ = None
-
-    def __reduce__(self):
-        return type(self).from_cells, (self.cells,)
-
-
-def _lent_number(unit):
-    """A unit's number as a call takes it."""
-    unit = operator.index(unit)
-    return unit if 0 <= unit <= MOST_64_BIT else NO_UNIT

@@ -5,6 +5,7 @@ first call. A call keeps nothing and lets other threads run meanwhile.
 """
 import ctypes
 import functools
+import operator
 import pathlib
 
 from .refusal import Refused
@@ -20,12 +21,16 @@ LONGEST_TIDY = {"constraint": 38, "supply": 7964, "schedules": 52284}
 DAY_CELLS = 195
 """How many 64-bit cells a day has."""
 
+FED_CELLS = 6
+"""How many 64-bit cells a test that is fed has."""
+
 ROW_CELLS = 7
 """How many 64-bit cells a row of the answer file has."""
 
 MOST_64_BIT = 2**64 - 1
 
 DayCells = ctypes.c_uint64 * DAY_CELLS
+FedCells = ctypes.c_uint64 * FED_CELLS
 RowCells = ctypes.c_uint64 * ROW_CELLS
 Report = ctypes.c_uint64 * 3
 
@@ -46,12 +51,16 @@ def _typed(library):
     written = [ctypes.c_char_p, length, Report]
     study = [*files, *written]
     amounts = [ctypes.POINTER(number), length]
+    left = ctypes.POINTER(number)
     for name, takes, answers in (
         ("capping_check", check, number),
         ("capping_study", study, number),
         ("capping_tidy", [number, *file, *written], number),
         ("capping_longest_tidy", [number], number),
-        ("capping_test", [*amounts, number, number, ctypes.POINTER(number)], number),
+        ("capping_test", [*amounts, number, number, left], number),
+        ("capping_fed_begin", [FedCells, number, number], None),
+        ("capping_fed_feed", [FedCells, number], None),
+        ("capping_fed_ask", [FedCells, left], number),
         ("capping_day_fresh", [DayCells], None),
         ("capping_day_study", [DayCells, *study], number),
         ("capping_preview", [DayCells, *files, number, RowCells, Report], number),
@@ -66,6 +75,12 @@ def lent(*files):
     """Each file as a pointer and a length."""
     held = [bytes(file) for file in files]
     return [part for file in held for part in (file, len(file))]
+
+
+def lent_number(number, beyond):
+    """A whole number as a call takes it; `beyond` is lent for one that isn't of 64 bits."""
+    number = operator.index(number)
+    return number if 0 <= number <= MOST_64_BIT else beyond
 
 
 def written_by(call, room):

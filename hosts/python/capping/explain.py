@@ -22,7 +22,7 @@ CURVE = ("unit", "schedule", "hour")
 def explained(refused, files, day):
     """The lines that say why a study or a preview of the files on a day, a release from it, or the tidying of a file was refused.
     The bytes of the files are given by what a study calls them."""
-    lines = [f"refused with {refused.number}: {refused.meaning}"]
+    lines = []
     if refused.file != 0:
         lines += DETAILS[refused.number](Spot(files, refusal.FILES[refused.file], refused.place))
     if refused.number == HOUR_TOO_EARLY:
@@ -33,7 +33,13 @@ def explained(refused, files, day):
         lines.append(f"the day: {shown(str(day).encode(), LONGEST_DAY_SHOWN)}")
     if refused.number == NOT_IN_SUPPLY:
         lines.append(_units_to_preview(Spot(files, "supply")))
-    return [*lines, f"{PAGE} says how to mend it, under {refused.number}"]
+    return framed(refused, lines)
+
+
+def framed(refused, details):
+    """The lines of a refusal: what it means, then these details of what was refused, then where to look."""
+    first = f"refused with {refused.number}: {refused.meaning}"
+    return [first, *details, f"{PAGE} says how to mend it, under {refused.number}"]
 
 
 def shown(content, longest=LONGEST_SHOWN):

@@ -58,11 +58,15 @@ def _read(path):
 
 def read_day(path):
     """The day whose words are the one line of a file. No day's words are too long for a file."""
-    line = _read(path).decode("latin-1")
     try:
-        return Day.parse(line.removesuffix("\n").removesuffix("\r"))
+        return Day.parse(without_end(_read(path)))
     except ValueError as error:
         raise Unreadable(f"{path} holds no day: {error}") from error
+
+
+def without_end(line):
+    """A line's text without its end, LF or CR LF, if it has one."""
+    return line.decode("latin-1").removesuffix("\n").removesuffix("\r")
 
 
 @contextlib.contextmanager

@@ -2,9 +2,8 @@
 import argparse
 import pathlib
 
-from . import columns
+from . import columns, numerals
 from .engine import LONGEST_TIDY
-from .words import NUMERAL
 
 FOLDER = """
 FOLDER holds constraint.csv, supply.csv and schedules.csv, each of at most
@@ -27,6 +26,13 @@ otherwise than a script wrote. The FILE to tidy has at most 64 KiB and is read
 alone, as the constraint.csv, supply.csv or schedules.csv that its name or --as
 says it is; a refusal calls it so.
 """
+TEST = """
+A test reads amounts from standard input, one numeral a line and one amount for
+each supplier, and prints what is left without the supplier at PLACE and its two
+largest others, and P where that is at least NEED, else F, as in 2,P. PLACE
+counts from 0. Each amount is taken as it comes and none is kept, so totals can
+be piped in, however many; above 32 of them the test is refused.
+"""
 DAY = """
 The FILE of --day holds a day on one line: the hour of its last study (n for
 none), a semicolon, and the running units with kind and schedule, as in
@@ -40,17 +46,18 @@ the record and what should stand there. docs/REFUSALS.md says how to mend it.
 exit status:
   0  there is an answer, or nothing to refuse
   1  refused
-  2  wrong usage, or a file or a day that can't be read or written
+  2  wrong usage, or a file, a day or a line of amounts that can't be read
+     or written
 """
-DESCRIPTION = "Runs the offer capping engine on the files of a folder, or on one of them."
+DESCRIPTION = "Runs the offer capping engine on the files of a folder, on one of them, or on amounts."
 BY_NAME = {columns.FILES[file].name: file for file in LONGEST_TIDY}
 LAYOUT = {"formatter_class": argparse.RawDescriptionHelpFormatter, "allow_abbrev": False}
 
 
 def read(arguments):
-    """What is asked: the name of a command with its folder, day and unit, or with a path and which file it is. Wrong usage and
-    --help end the program."""
-    epilog = FOLDER + BESIDE + PREVIEW + DAY + TIDY + REFUSALS
+    """What is asked: the name of a command with its folder, day and unit, or with a path and which file it is, or with a place and
+    a need. Wrong usage and --help end the program."""
+    epilog = FOLDER + BESIDE + PREVIEW + DAY + TIDY + TEST + REFUSALS
     parser = argparse.ArgumentParser(prog="python3 -m capping", description=DESCRIPTION, epilog=epilog, **LAYOUT)
     commands = parser.add_subparsers(dest="command", metavar="COMMAND", required=True)
     _check(commands)
@@ -58,6 +65,7 @@ def read(arguments):
     _preview(commands)
     _release(commands)
     tidy = _tidy(commands)
+    _test(commands)
     asked = parser.parse_args(arguments)
     if asked.command == "tidy" and asked.file is None:
         asked.file = _file_by_name(asked.path, tidy)
@@ -102,6 +110,14 @@ def _tidy(commands):
     return command
 
 
+def _test(commands):
+    does = "test one supplier on amounts from standard input"
+    command = commands.add_parser("test", help=does, description=does, epilog=TEST + REFUSALS, **LAYOUT)
+    place = _by(numerals.any_number, "a place")
+    command.add_argument("place", metavar="PLACE", type=place, help="which amount is the supplier's own, from 0")
+    command.add_argument("need", metavar="NEED", type=_by(numerals.number, "a need"), help="what has to be left")
+
+
 def _file_by_name(path, command):
     if path.name not in BY_NAME:
         command.error(f"{path} has none of the names {', '.join(BY_NAME)}: say with --as which file it is")
@@ -113,14 +129,21 @@ def _takes_folder(command):
 
 
 def _takes_unit(command):
-    command.add_argument("unit", metavar="UNIT", type=_unit, help="the unit's number")
+    unit = _by(numerals.any_number, "a unit's number")
+    command.add_argument("unit", metavar="UNIT", type=unit, help="the unit's number")
 
 
 def _takes_day(command, words, required=False):
     command.add_argument("--day", metavar="FILE", type=pathlib.Path, required=required, help=words)
 
 
-def _unit(word):
-    if not NUMERAL.fullmatch(word):
-        raise argparse.ArgumentTypeError(f"{word!r} isn't a unit's number")
-    return int(word)
+def _by(reading, what):
+    """How an argument of a kind is read; wrong usage tells what is wrong with it."""
+
+    def read_argument(word):
+        try:
+            return reading(word, what)
+        except ValueError as error:
+            raise argparse.ArgumentTypeError(str(error)) from error
+
+    return read_argument

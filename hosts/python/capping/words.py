@@ -2,17 +2,12 @@
 
 An ill-formed day has words too, and they are read as they stand.
 """
-import re
-
-from .engine import MOST_64_BIT
+from .numerals import number, quoted
 from .view import KINDS, MOST_RUNNING, UNREAD, Running, View
 
 FRESH = "-"
 NO_HOUR = "n"
 MOST_UNITS = 1000
-NUMERAL = re.compile("0|[1-9][0-9]*")
-MOST_DIGITS = len(str(MOST_64_BIT))
-LONGEST_QUOTED = 60
 
 
 def written(view):
@@ -31,8 +26,8 @@ def read(words):
         return View(None, 0, ())
     hour, semicolon, units = words.partition(";")
     if not semicolon:
-        raise ValueError(f"a day is - or HOUR;UNITS, and {_quoted(words)} has no semicolon")
-    hour = None if hour == NO_HOUR else _number(hour, "an hour")
+        raise ValueError(f"a day is - or HOUR;UNITS, and {quoted(words)} has no semicolon")
+    hour = None if hour == NO_HOUR else number(hour, "an hour")
     units = [_unit(word) for word in units.split(",")] if units else []
     if len(units) > MOST_UNITS:
         raise ValueError(f"a day's words have at most {MOST_UNITS} units, and these have {len(units)}")
@@ -42,18 +37,8 @@ def read(words):
 def _unit(word):
     parts = word.split(":")
     if len(parts) != len(Running._fields):
-        raise ValueError(f"a running unit is UNIT:KIND:SCHEDULE, and {_quoted(word)} isn't")
+        raise ValueError(f"a running unit is UNIT:KIND:SCHEDULE, and {quoted(word)} isn't")
     unit, kind, schedule = parts
     if kind not in KINDS:
-        raise ValueError(f"a kind is M or C, and {_quoted(kind)} isn't")
-    return Running(_number(unit, "a unit"), kind, _number(schedule, "a schedule"))
-
-
-def _number(word, what):
-    if not NUMERAL.fullmatch(word) or len(word) > MOST_DIGITS or int(word) > MOST_64_BIT:
-        raise ValueError(f"{what} is a numeral below 2^64 with no sign and no leading zero, and {_quoted(word)} isn't")
-    return int(word)
-
-
-def _quoted(word):
-    return repr(word if len(word) <= LONGEST_QUOTED else word[:LONGEST_QUOTED] + "..")
+        raise ValueError(f"a kind is M or C, and {quoted(kind)} isn't")
+    return Running(number(unit, "a unit"), kind, number(schedule, "a schedule"))

@@ -1,9 +1,12 @@
 //! The engine's own functions, each behind a call that no safe program can misuse.
 use crate::row::{Row, ROW_CELLS};
-use crate::{File, Files, Refusal, DAY_CELLS};
+use crate::{File, Files, Refusal, Verdict, DAY_CELLS, FED_CELLS};
 
 /// The cells of a day.
 pub type Cells = [u64; DAY_CELLS];
+
+/// The cells of a test that is fed.
+pub type FedCells = [u64; FED_CELLS];
 
 /// The cells of a row of the answer file.
 type RowCells = [u64; ROW_CELLS];
@@ -53,6 +56,12 @@ extern "C" {
         need: u64,
         left: *mut u64,
     ) -> u64;
+
+    fn capping_fed_begin(fed: *mut FedCells, place: u64, need: u64);
+
+    fn capping_fed_feed(fed: *mut FedCells, amount: u64);
+
+    fn capping_fed_ask(fed: *const FedCells, left: *mut u64) -> u64;
 
     fn capping_day_fresh(day: *mut Cells);
 
@@ -157,8 +166,26 @@ pub fn tidy(file: File, bytes: &[u8], tidy: &mut [u8]) -> Result<usize, Refusal>
     written(count, report)
 }
 
-pub fn test(amounts: &[u64], place: u64, need: u64, left: &mut u64) -> u64 {
-    unsafe { capping_test(amounts.as_ptr(), amounts.len(), place, need, left) }
+pub fn test(amounts: &[u64], place: u64, need: u64) -> Result<(u64, Verdict), Refusal> {
+    let mut left = 0;
+    let answer = unsafe { capping_test(amounts.as_ptr(), amounts.len(), place, need, &mut left) };
+    tested(answer, left)
+}
+
+pub fn fed_begin(place: u64, need: u64) -> FedCells {
+    let mut fed = [0; FED_CELLS];
+    unsafe { capping_fed_begin(&mut fed, place, need) };
+    fed
+}
+
+pub fn fed_feed(fed: &mut FedCells, amount: u64) {
+    unsafe { capping_fed_feed(fed, amount) };
+}
+
+pub fn fed_ask(fed: &FedCells) -> Result<(u64, Verdict), Refusal> {
+    let mut left = 0;
+    let answer = unsafe { capping_fed_ask(fed, &mut left) };
+    tested(answer, left)
 }
 
 pub fn day_fresh() -> Cells {
@@ -192,6 +219,19 @@ pub fn day_release(day: &mut Cells, unit: u64) -> Result<(), Refusal> {
     let mut report = [0; 3];
     unsafe { capping_day_release(day, unit, &mut report) };
     accepted(report)
+}
+
+/// What came of a test, by the number that it answers and what it stored.
+fn tested(answer: u64, left: u64) -> Result<(u64, Verdict), Refusal> {
+    match answer {
+        0 => Ok((left, Verdict::P)),
+        1 => Ok((left, Verdict::F)),
+        number => Err(Refusal {
+            number,
+            file: 0,
+            place: 0,
+        }),
+    }
 }
 
 /// How many bytes a call wrote, by its report.

@@ -1,7 +1,7 @@
 //! The offer capping engine as Rust programs call it: check three files, study files on a fresh day or on one that goes on, look
-//! at the choice for one unit before, release a unit, hand a file back tidy, test one supplier. The engine keeps nothing, and a day
-//! is its caller's own, so threads may call at the same time. A call takes up to 136 KiB of stack, and one with
-//! curves up to 328 KiB.
+//! at the choice for one unit before, release a unit, hand a file back tidy, test one supplier on a list of amounts or fed one by
+//! one. The engine keeps nothing, and a day or a fed test is its caller's own, so threads may call at the same time. A call takes
+//! up to 136 KiB of stack, and one with curves up to 328 KiB.
 //!
 //! ```
 //! use capping::Files;
@@ -36,6 +36,7 @@
 //! ```
 mod day;
 mod engine;
+mod fed;
 mod files;
 mod refusal;
 mod row;
@@ -43,6 +44,7 @@ mod running;
 mod words;
 
 pub use day::{Day, DAY_CELLS};
+pub use fed::{FedTest, FED_CELLS};
 pub use files::{File, Files};
 pub use refusal::Refusal;
 pub use row::{Row, Verdict};
@@ -95,16 +97,7 @@ pub fn tidy_into(file: File, bytes: &[u8], tidy: &mut [u8]) -> Result<usize, Ref
 /// Tests the supplier at `place`, counted from 0: what is left without it and its two largest others, and the verdict, which is
 /// never `U`.
 pub fn test(amounts: &[u64], place: usize, need: u64) -> Result<(u64, Verdict), Refusal> {
-    let mut left = 0;
-    match engine::test(amounts, place as u64, need, &mut left) {
-        0 => Ok((left, Verdict::P)),
-        1 => Ok((left, Verdict::F)),
-        number => Err(Refusal {
-            number,
-            file: 0,
-            place: 0,
-        }),
-    }
+    engine::test(amounts, place as u64, need)
 }
 
 /// What a call writes into a buffer of a length.

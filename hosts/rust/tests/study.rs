@@ -2,9 +2,7 @@
 mod common;
 
 use capping::{study, study_into, test, Refusal, Verdict, LONGEST_ANSWER};
-use common::{refused, Files, AFFILIATED_ANSWER, PATTERN, SCHEDULES, STARRED_ANSWER};
-
-const MOST_AMOUNT: u64 = 1_000_000_000_000;
+use common::{refused, Files, AFFILIATED_ANSWER, MOST_AMOUNT, PATTERN, SCHEDULES, STARRED_ANSWER};
 
 /// Studies files in a buffer of a length that is filled with the pattern first: what is answered, and the buffer.
 fn study_in(length: usize, files: &Files) -> (Result<usize, Refusal>, Vec<u8>) {

@@ -1,13 +1,14 @@
-//! One batch: an engine's answers beside the model's, each judged by demand 3 where the study is small, and every
-//! row of a study beside its preview.
+//! One batch: an engine's answers beside the model's, each judged by demand 3 where the study is small, every
+//! row of a study beside its preview, and every list that was fed beside the test of it.
 
 use capping_model::case::{self, read_hex, Case};
 use capping_model::changes::changed;
 use capping_model::judge::Judge;
 
-use crate::previews::Previews;
+use crate::beside::Beside;
 use crate::run::{Asked, Run};
 use crate::showing::{readable, show_case, show_difference};
+use crate::{lists, previews};
 
 /// A batch without a difference.
 #[derive(Default)]
@@ -16,6 +17,8 @@ pub struct Compared {
     pub judged: Judged,
     /// How many rows of accepted studies were previewed.
     pub previewed: u64,
+    /// How many lists that the test was fed with were tested at once.
+    pub listed: u64,
 }
 
 /// A case and its right answer.
@@ -34,14 +37,16 @@ pub struct Judged {
 /// The batch that begins with an index, or the report of its first difference.
 pub fn compare_batch(run: &Run, first: u64) -> Result<Compared, String> {
     let mut compared = Compared::default();
-    let mut previews = Previews::default();
+    let (mut of_studies, mut of_fed) = (Beside::default(), Beside::default());
     run.engine.each_answer(run.batch(first), |asked, answer| {
         compared.judged.add(compare_case(run, &asked, &answer)?);
-        previews.add(&asked, &answer);
+        previews::add(&mut of_studies, &asked, &answer);
+        lists::add(&mut of_fed, &asked, &answer);
         compared.cases.push(Answered { line: asked.line, answer });
         Ok(())
     })?;
-    compared.previewed = previews.ask(run)?;
+    compared.previewed = of_studies.ask(run)?;
+    compared.listed = of_fed.ask(run)?;
     Ok(compared)
 }
 

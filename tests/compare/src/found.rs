@@ -17,6 +17,7 @@ pub struct Found {
     tally: Tally,
     judged: Judged,
     previewed: u64,
+    listed: u64,
 }
 
 impl Found {
@@ -27,6 +28,7 @@ impl Found {
         self.cases += compared.cases.len() as u64;
         self.judged.add(compared.judged);
         self.previewed += compared.previewed;
+        self.listed += compared.listed;
     }
 
     /// The report; an error where something was never reached that has to be.
@@ -38,6 +40,7 @@ impl Found {
             "\njudged by demand 3: {accepted} answers accepted, {rejected} changed ones rejected"
         );
         let _ = writeln!(report, "rows of accepted studies that previews show too: {}", self.previewed);
+        let _ = writeln!(report, "fed lists that the test on a list answers alike: {}", self.listed);
         let seconds = time.as_secs_f64();
         let _ = write!(report, "{} cases of seed {}: no difference, {seconds:.1} s", self.cases, run.seed);
         let missing = self.tally.missing();

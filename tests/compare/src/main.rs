@@ -10,7 +10,9 @@
 //! | [`run`] | what to run, and the cases of a batch |
 //! | [`asking`] | an engine's answers to a batch |
 //! | [`batch`] | one batch: the answers beside the model's, and judged by demand 3 |
+//! | [`beside`] | cases that an engine's own answers call for |
 //! | [`previews`] | every unit of an accepted study, previewed |
+//! | [`lists`] | every list that the test was fed with, tested at once |
 //! | [`found`] | what a run has found, and its report |
 //! | [`comparing`] | all batches, as many at once as the machine has cores |
 //! | [`showing`] | cases and answers as people read them |
@@ -18,7 +20,9 @@
 mod run;
 mod asking;
 mod batch;
+mod beside;
 mod previews;
+mod lists;
 mod found;
 mod comparing;
 mod showing;

@@ -7,6 +7,7 @@
 //! check C S H                  NUMBER
 //! tidy N FILE BUFLEN           ok TIDYHEX         or   no NUMBER FILE PLACE
 //! preview DAY C S H K P UNIT   ok ROW             or   no NUMBER FILE PLACE
+//! fed NEED PLACE a,b,c         as test
 //! ```
 //!
 //! DAY is `-` for a fresh day or `H;u:k:s,u:k:s`: H the hour or `n` for none, u a unit, k its kind, s
@@ -20,7 +21,8 @@ use std::fmt::{self, Display, Formatter, Write};
 
 use crate::check::check;
 use crate::day::{Day, Running};
-use crate::pivotal::test;
+use crate::fed::test_fed;
+use crate::pivotal::{test, Tested};
 use crate::refusal::Refusal;
 use crate::rules::Files;
 use crate::table::Kind;
@@ -76,15 +78,24 @@ impl StudyFiles {
     }
 }
 
+/// What a lone test is asked, whether it has the list at once or is fed.
+#[derive(Clone, Debug, PartialEq, Eq)]
+pub struct Lone {
+    pub need: u64,
+    pub place: u64,
+    pub amounts: Vec<u64>,
+}
+
 /// What a line asks.
 #[derive(Clone, Debug, PartialEq, Eq)]
 pub enum Case {
     Study { day: Day, files: StudyFiles, buffer: u64 },
     Release { day: Day, unit: u64 },
-    Test { need: u64, place: u64, amounts: Vec<u64> },
+    Test(Lone),
     Check { files: ThreeFiles },
     Tidy { kind: FileKind, file: Vec<u8>, buffer: u64 },
     Preview { day: Day, files: StudyFiles, unit: u64 },
+    Fed(Lone),
 }
 
 /// The answer to a line.
@@ -107,11 +118,7 @@ impl Case {
                 buffer: read_length(buffer, LONGEST_BUFFER)?,
             }),
             ["release", day, unit] => Some(Case::Release { day: read_day(day)?, unit: read_number(unit)? }),
-            ["test", need, place, amounts] => Some(Case::Test {
-                need: read_number(need)?,
-                place: read_number(place)?,
-                amounts: read_amounts(amounts)?,
-            }),
+            ["test", need, place, amounts] => Some(Case::Test(read_lone(need, place, amounts)?)),
             ["check", c, s, h] => Some(Case::Check { files: ThreeFiles(read_files([c, s, h])?) }),
             ["tidy", number, file, buffer] => Some(Case::Tidy {
                 kind: FileKind::numbered(read_number(number)?)?,
@@ -123,6 +130,7 @@ impl Case {
                 files: StudyFiles(read_files([c, s, h, k, p])?),
                 unit: read_number(unit)?,
             }),
+            ["fed", need, place, amounts] => Some(Case::Fed(read_lone(need, place, amounts)?)),
             _ => None,
         }
     }
@@ -135,16 +143,14 @@ impl Case {
                 (day, Ok(())) => format!("ok {day}"),
                 (_, Err(refusal)) => refusal.to_string(),
             },
-            Case::Test { need, place, amounts } => match test(&amounts, place, need) {
-                Ok(tested) => format!("ok {} {}", tested.left, tested.verdict.letter()),
-                Err(refusal) => refusal.to_string(),
-            },
+            Case::Test(Lone { need, place, amounts }) => answer_tested(test(&amounts, place, need)),
             Case::Check { files } => check(files.lend()).to_string(),
             Case::Tidy { kind, file, buffer } => answer_tidy(kind, &file, buffer),
             Case::Preview { day, files, unit } => match day.preview(&files.lend(), unit) {
                 Ok(row) => format!("ok {row}"),
                 Err(refusal) => refusal.to_string(),
             },
+            Case::Fed(Lone { need, place, amounts }) => answer_tested(test_fed(&amounts, place, need)),
         }
     }
 }
@@ -153,6 +159,13 @@ fn answer_study(day: Day, files: &Files, buffer: u64) -> String {
     match lend(buffer, |lent| day.study(files, lent)) {
         (next, Ok(answer)) => format!("ok {} {next}", Hex(&answer)),
         (_, Err(other)) => other,
+    }
+}
+
+fn answer_tested(result: Result<Tested, Refusal>) -> String {
+    match result {
+        Ok(tested) => format!("ok {} {}", tested.left, tested.verdict.letter()),
+        Err(refusal) => refusal.to_string(),
     }
 }
 
@@ -220,21 +233,26 @@ fn write_files(files: &[Vec<u8>], out: &mut Formatter) -> fmt::Result {
     out.write_str(&words.join(" "))
 }
 
+impl Display for Lone {
+    fn fmt(&self, out: &mut Formatter) -> fmt::Result {
+        let amounts: Vec<String> = self.amounts.iter().map(u64::to_string).collect();
+        let amounts = if amounts.is_empty() { ".".to_string() } else { amounts.join(",") };
+        write!(out, "{} {} {amounts}", self.need, self.place)
+    }
+}
+
 impl Display for Case {
     fn fmt(&self, out: &mut Formatter) -> fmt::Result {
         match self {
             Case::Study { day, files, buffer } => write!(out, "study {day} {files} {buffer}"),
             Case::Release { day, unit } => write!(out, "release {day} {unit}"),
-            Case::Test { need, place, amounts } if amounts.is_empty() => write!(out, "test {need} {place} ."),
-            Case::Test { need, place, amounts } => {
-                let amounts: Vec<String> = amounts.iter().map(u64::to_string).collect();
-                write!(out, "test {need} {place} {}", amounts.join(","))
-            }
+            Case::Test(lone) => write!(out, "test {lone}"),
             Case::Check { files } => write!(out, "check {files}"),
             Case::Tidy { kind, file, buffer } => {
                 write!(out, "tidy {} {} {buffer}", kind.number(), Hex(file))
             }
             Case::Preview { day, files, unit } => write!(out, "preview {day} {files} {unit}"),
+            Case::Fed(lone) => write!(out, "fed {lone}"),
         }
     }
 }
@@ -293,6 +311,10 @@ fn read_length(text: &str, longest: u64) -> Option<u64> {
 fn read_files<const COUNT: usize>(words: [&str; COUNT]) -> Option<[Vec<u8>; COUNT]> {
     let files: Vec<Vec<u8>> = words.into_iter().map(read_hex).collect::<Option<_>>()?;
     files.try_into().ok()
+}
+
+fn read_lone(need: &str, place: &str, amounts: &str) -> Option<Lone> {
+    Some(Lone { need: read_number(need)?, place: read_number(place)?, amounts: read_amounts(amounts)? })
 }
 
 fn read_amounts(text: &str) -> Option<Vec<u64>> {
@@ -381,6 +403,20 @@ mod tests {
     }
 
     #[test]
+    fn fed_tests() {
+        assert_eq!(ask("fed 2 3 4,3,2,1"), "ok 2 P");
+        assert_eq!(ask("fed 3 3 4,3,2,1"), "ok 2 F");
+        assert_eq!(ask("fed 0 3 4,3"), "no 11 0 0");
+        assert_eq!(ask("fed 3 0 ."), "no 11 0 0");
+        let ones = |count: usize| vec!["1"; count].join(",");
+        assert_eq!(ask(&format!("fed 0 0 {}", ones(32))), "ok 29 P");
+        for count in [33, 257, LONGEST_LIST] {
+            assert_eq!(ask(&format!("fed 0 0 {}", ones(count))), "no 11 0 0", "{count}");
+        }
+        assert_eq!(ask(&format!("fed 0 0 {}", ones(LONGEST_LIST + 1))), UNREADABLE);
+    }
+
+    #[test]
     fn curves_stand_before_parents() {
         let files = Bytes::starred().with_curves(&["11,2,6,1,1"]).with_parents(&["1,1"]).words();
         assert_eq!(ask(&format!("study - {files} 0")), "no 32 4 1");
@@ -445,6 +481,17 @@ mod tests {
             "preview - . . . 0 . 11",
             "preview - . . . . 0 11",
             "preview 5 . . . . . 11",
+            "fed",
+            "fed 1 0",
+            "fed 1 0 1 1",
+            "fed 1 0 1,,2",
+            "fed 1 0 1,",
+            "fed -1 0 1",
+            "fed 1 01 1",
+            "fed 1 . 1",
+            "fed 1 0 18446744073709551616",
+            "fed 1 18446744073709551616 1",
+            "fed 18446744073709551616 0 1",
         ];
         for line in lines {
             assert_eq!(ask(line), UNREADABLE, "{line}");
@@ -463,6 +510,9 @@ mod tests {
             "tidy 1 . 0",
             "tidy 3 0aff 65536",
             "preview 7;1:M:2 0aff . 00 31 0d0a 18446744073709551615",
+            "fed 1 2 3,4",
+            "fed 18446744073709551615 18446744073709551615 18446744073709551615",
+            "fed 0 0 .",
         ] {
             assert_eq!(Case::read(line.as_bytes()).unwrap().to_string(), line);
         }

@@ -1,5 +1,5 @@
-//! The offer capping engine, written down from document 01, with requests F-1, F-2, F-3, F-4 and F-6 of
-//! document 02, and from nothing else.
+//! The offer capping engine, written down from document 01, with requests F-1 to F-6 of document 02, and
+//! from nothing else.
 //!
 //! It is a model: every function says one sentence of the paper, nothing is tuned, and whoever
 //! doubts an engine can read here what the paper asks. The modules stand in the paper's order.
@@ -13,6 +13,7 @@
 //! | [`rules`] | what rows must be to each other: the refusals 5 to 9 and 32 to 36 in their order |
 //! | [`market`] | capped offer, eligible supply, clearing cost, relevant market |
 //! | [`pivotal`] | the test of one supplier, within a study and on its own |
+//! | [`fed`] | the same test, given one amount a call |
 //! | [`choice`] | eligible schedules, their cost, the one taken |
 //! | [`day`] | the hour and the running units; release |
 //! | [`answer`] | the answer file |
@@ -24,8 +25,8 @@
 //! What follows isn't in the paper: [`case`] reads and answers cases written as lines, [`judge`]
 //! weighs any answer by the words of demand 3, [`changes`] makes answers for it to reject,
 //! [`generator`] makes cases up, and [`tally`] counts what they reached, by [`grouping`] where suppliers
-//! are affiliated, by [`pricing`] where there are curves and by [`offering`] where costs or prices are
-//! around 2,000 dollars.
+//! are affiliated, by [`pricing`] where there are curves, by [`offering`] where costs or prices are around
+//! 2,000 dollars and by [`feeding`] where the test is fed.
 //!
 //! Programs: `model` answers cases, and `generate SEED COUNT` prints them. `tests/compare` holds an
 //! engine against the model on them.
@@ -38,6 +39,7 @@ pub mod parents;
 pub mod rules;
 pub mod market;
 pub mod pivotal;
+pub mod fed;
 pub mod choice;
 pub mod day;
 pub mod answer;
@@ -53,4 +55,5 @@ pub mod generator;
 pub mod grouping;
 pub mod pricing;
 pub mod offering;
+pub mod feeding;
 pub mod tally;

@@ -36,6 +36,14 @@ pub struct Tested {
     pub verdict: Verdict,
 }
 
+impl Tested {
+    /// "F when left is below the need, else P."
+    pub fn of(left: u64, need: u64) -> Tested {
+        let verdict = if left < need { Verdict::F } else { Verdict::P };
+        Tested { left, verdict }
+    }
+}
+
 /// "Left is the relevant supply without it and without its two largest other suppliers (fewer where
 /// fewer exist)."
 fn left(amounts: &[u64], place: usize) -> u64 {
@@ -45,11 +53,8 @@ fn left(amounts: &[u64], place: usize) -> u64 {
     others.iter().rev().skip(2).sum()
 }
 
-/// "F when left is below the need, else P."
 fn tested(amounts: &[u64], place: usize, need: u64) -> Tested {
-    let left = left(amounts, place);
-    let verdict = if left < need { Verdict::F } else { Verdict::P };
-    Tested { left, verdict }
+    Tested::of(left(amounts, place), need)
 }
 
 /// "The test can be called on its own: one place in a lent run of 64-bit amounts, one per supplier,

@@ -1,5 +1,5 @@
 //! How often each refusal and each verdict was reached by the cases of a run, what parents, curves and costs
-//! above 2,000 dollars did, what was handed back tidy, and what was previewed.
+//! above 2,000 dollars did, what was handed back tidy, what was previewed, and what the test was fed with.
 
 use std::collections::BTreeMap;
 use std::fmt::{self, Display, Formatter};
@@ -7,6 +7,7 @@ use std::ops::RangeInclusive;
 
 use crate::case::{read_hex, Case, StudyFiles, UNREADABLE};
 use crate::day::Day;
+use crate::feeding::{self, Feeding};
 use crate::grouping::Grouping;
 use crate::offering::{self, Offering};
 use crate::pricing::{self, Pricing};
@@ -15,7 +16,7 @@ use crate::table::read_supply;
 /// Something that a case can reach.
 #[derive(Clone, Copy, Debug, PartialEq, Eq, PartialOrd, Ord)]
 pub enum Reached {
-    /// A refusal of a study, a release or a lone test, by number and file.
+    /// A refusal of a study, a release or a lone test on a list, by number and file.
     Refusal(u64, u64),
     /// A refusal of curves or parents beyond 1 to 4, by number and the band of its place.
     Place(u64, u64),
@@ -23,7 +24,7 @@ pub enum Reached {
     Check(u64),
     /// A row of an accepted study, by its verdict.
     Row(char),
-    /// A lone test, by its verdict.
+    /// A lone test on a list, by its verdict.
     Test(char),
     Study,
     Release,
@@ -68,6 +69,8 @@ pub enum Reached {
     PreviewedByParents,
     /// .. and one that is another without curves.
     PreviewedByCurves,
+    /// What a list did that the test was fed with.
+    Fed(Feeding),
 }
 
 /// The verdicts of a study's rows.
@@ -82,7 +85,7 @@ const FILES: [u64; 6] = [0, 1, 2, 3, 4, 5];
 /// A refusal's number, with the files that it can name.
 type Named = (u64, &'static [u64]);
 
-/// The refusals of a study, a release or a lone test.
+/// The refusals of a study, a release or a lone test on a list.
 const REFUSALS: [Named; 21] = [
     (1, &[1, 2, 3, 4, 5]),
     (2, &[1, 2, 3, 4, 5]),
@@ -309,6 +312,17 @@ impl Tally {
         writeln!(out)
     }
 
+    /// What the test was fed with.
+    fn show_fed(&self, out: &mut Formatter) -> fmt::Result {
+        let of = |said| self.of(Reached::Fed(said));
+        let said = feeding::SAID.map(|(what, said)| format!("{what}: {}", of(said)));
+        write!(out, "fed      {}\nin lists of", said.join(", "))?;
+        for length in feeding::LENGTHS {
+            write!(out, "  {length}: {}", of(Feeding::Length(length)))?;
+        }
+        writeln!(out)
+    }
+
     /// A line for each refusal, with a count for each file that it can name.
     fn show_refusals(
         &self,
@@ -367,6 +381,7 @@ fn can_occur() -> Vec<Reached> {
     }
     all.extend(Pricing::all().into_iter().map(Reached::Curves));
     all.extend(Offering::all().into_iter().map(Reached::Offers));
+    all.extend(Feeding::all().into_iter().map(Reached::Fed));
     all.extend(CHAINS.map(Reached::Chain));
     all.extend(MOVED.map(|(_, reached)| reached));
     all
@@ -396,6 +411,7 @@ fn reached_by_answer(case: &[u8], answer: &str) -> Vec<Reached> {
     match (asked, &words[..]) {
         _ if answer == UNREADABLE => vec![Reached::Unreadable],
         (b"preview", _) => reached_by_preview(case, answer),
+        (b"fed", _) => Feeding::of(case, answer).into_iter().map(Reached::Fed).collect(),
         (b"tidy", ["no", number, file, _]) => vec![Reached::NotTidied(count(number), count(file))],
         (b"tidy", ["ok", hex]) => reached_by_tidy(case, hex),
         (_, ["no", number, file, _]) => vec![Reached::Refusal(count(number), count(file))],
@@ -506,6 +522,7 @@ impl Display for Tally {
         self.show_parents(out)?;
         self.show_tidy(out)?;
         self.show_previews(out)?;
+        self.show_fed(out)?;
         write!(out, "unreadable: {}", self.of(Reached::Unreadable))
     }
 }
@@ -575,6 +592,14 @@ mod tests {
         assert_eq!(reached("6;", 11), [Reached::NotPreviewed(20, 0)]);
         assert_eq!(reached("6;", 15), [Reached::NotPreviewed(20, 0), Reached::BeforeThirtyOne(20)]);
         assert_eq!(super::reached(b"preview - . . . .", UNREADABLE), [Reached::Unreadable]);
+    }
+
+    #[test]
+    fn fed_lists_count_by_what_they_are() {
+        let reached = |line: &str| reached(line.as_bytes(), &case::answer(line.as_bytes()));
+        assert_eq!(reached("fed 1 2 1,1"), [Reached::Fed(Feeding::PlaceAtLength)]);
+        assert_eq!(reached("fed 7 1 5,2,5,1"), [Reached::Fed(Feeding::Answered('F'))]);
+        assert_eq!(reached("fed 1 0"), [Reached::Unreadable]);
     }
 
     #[test]

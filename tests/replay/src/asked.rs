@@ -30,13 +30,22 @@ impl StudyFiles {
     }
 }
 
+/// A test of one supplier.
+#[derive(Debug, PartialEq, Eq)]
+pub struct OneTest {
+    pub need: u64,
+    pub place: usize,
+    pub amounts: Vec<u64>,
+}
+
 #[derive(Debug, PartialEq, Eq)]
 pub enum Asked {
     Study { day: Day, files: StudyFiles, lent: usize },
     Preview { day: Day, files: StudyFiles, unit: u64 },
     Release { day: Day, unit: u64 },
     Tidy { file: File, bytes: Vec<u8>, lent: usize },
-    Test { need: u64, place: usize, amounts: Vec<u64> },
+    Test(OneTest),
+    Fed(OneTest),
     Check { files: ThreeFiles },
 }
 
@@ -61,11 +70,8 @@ impl Asked {
                 bytes: hex::read(file)?,
                 lent: read_lent(lent, LONGEST_TIDY_BUFFER)?,
             }),
-            [b"test", need, place, amounts] => Some(Asked::Test {
-                need: read_number(need)?,
-                place: read_size(place)?,
-                amounts: read_amounts(amounts)?,
-            }),
+            [b"test", need, place, amounts] => read_test(need, place, amounts).map(Asked::Test),
+            [b"fed", need, place, amounts] => read_test(need, place, amounts).map(Asked::Fed),
             [b"check", c, s, h] => Some(Asked::Check { files: read_files([c, s, h])? }),
             _ => None,
         }
@@ -96,6 +102,10 @@ fn read_file_number(word: &[u8]) -> Option<File> {
 
 fn read_lent(word: &[u8], longest: usize) -> Option<usize> {
     read_size(word).filter(|&lent| lent <= longest)
+}
+
+fn read_test(need: &[u8], place: &[u8], amounts: &[u8]) -> Option<OneTest> {
+    Some(OneTest { need: read_number(need)?, place: read_size(place)?, amounts: read_amounts(amounts)? })
 }
 
 fn read_amounts(word: &[u8]) -> Option<Vec<u64>> {
@@ -154,8 +164,12 @@ mod tests {
             let tidy = Asked::Tidy { file, bytes: vec![0x0a, 0xff], lent: 12 };
             assert_eq!(read(&format!("tidy {number} 0aff 12")), Some(tidy));
         }
-        assert_eq!(read("test 1 2 3,4"), Some(Asked::Test { need: 1, place: 2, amounts: vec![3, 4] }));
-        assert_eq!(read("test 0 0 ."), Some(Asked::Test { need: 0, place: 0, amounts: vec![] }));
+        let some = || OneTest { need: 1, place: 2, amounts: vec![3, 4] };
+        let none = || OneTest { need: 0, place: 0, amounts: vec![] };
+        assert_eq!(read("test 1 2 3,4"), Some(Asked::Test(some())));
+        assert_eq!(read("test 0 0 ."), Some(Asked::Test(none())));
+        assert_eq!(read("fed 1 2 3,4"), Some(Asked::Fed(some())));
+        assert_eq!(read("fed 0 0 ."), Some(Asked::Fed(none())));
         assert_eq!(read("check 0aff . 00"), Some(Asked::Check { files: files() }));
     }
 
@@ -187,9 +201,12 @@ mod tests {
 
     #[test]
     fn as_many_amounts_as_a_case_may_have() {
-        let test = |count: usize| read(&format!("test 1 0 {}", vec!["7"; count].join(",")));
-        assert_eq!(test(1_000), Some(Asked::Test { need: 1, place: 0, amounts: vec![7; 1_000] }));
-        assert_eq!(test(1_001), None);
+        let line = |word: &str, count: usize| read(&format!("{word} 1 0 {}", vec!["7"; count].join(",")));
+        let most = || OneTest { need: 1, place: 0, amounts: vec![7; 1_000] };
+        assert_eq!(line("test", 1_000), Some(Asked::Test(most())));
+        assert_eq!(line("fed", 1_000), Some(Asked::Fed(most())));
+        assert_eq!(line("test", 1_001), None);
+        assert_eq!(line("fed", 1_001), None);
     }
 
     #[test]
@@ -270,6 +287,23 @@ mod tests {
             "test 1 0 1,",
             "test 1 0 1 2",
             "test 1 0 .,1",
+            "fed",
+            "fed 1 0",
+            "fed 1 0 ",
+            "fed -1 0 1",
+            "fed 1 -1 1",
+            "fed 1 0 -1",
+            "fed 1 18446744073709551616 1",
+            "fed 18446744073709551616 0 1",
+            "fed 1 0 18446744073709551616",
+            "fed 1 0 01",
+            "fed 1 0 1,,2",
+            "fed 1 0 1,",
+            "fed 1 0 1 2",
+            "fed 1 0 .,1",
+            "fed 1 0 1 ",
+            "Fed 1 0 1",
+            "feed 1 0 1",
             "check . .",
             "check . . . .",
             "check . . 1",

@@ -7,6 +7,7 @@
 //! release DAY UNIT             ok DAY             or   no NUMBER FILE PLACE
 //! tidy N FILE BUFLEN           ok TIDYHEX         or   no NUMBER FILE PLACE
 //! test NEED PLACE a,b,c        ok LEFT P   or   ok LEFT F   or   no 11 0 0
+//! fed NEED PLACE a,b,c         the same, of the test that is fed one amount a call
 //! check C S H                  NUMBER
 //! ```
 //!
@@ -24,9 +25,9 @@ mod hex;
 
 use std::hint::black_box;
 
-use capping::{Day, File, Files, Refusal, Row};
+use capping::{Day, FedTest, File, Files, Refusal, Row, Verdict};
 
-use asked::{Asked, LONGEST_BUFFER, LONGEST_TIDY_BUFFER};
+use asked::{Asked, OneTest, LONGEST_BUFFER, LONGEST_TIDY_BUFFER};
 use hex::Hex;
 
 /// What the buffer is filled with before it is lent. No answer file and no tidy file has this byte.
@@ -46,7 +47,8 @@ pub fn answer(line: &[u8]) -> String {
         Some(Asked::Preview { day, files, unit }) => preview(day, files.lent(), unit),
         Some(Asked::Release { day, unit }) => release(day, unit),
         Some(Asked::Tidy { file, bytes, lent }) => tidy(file, &bytes, lent),
-        Some(Asked::Test { need, place, amounts }) => test(&amounts, place, need),
+        Some(Asked::Test(one)) => test(&one),
+        Some(Asked::Fed(one)) => fed(&one),
         Some(Asked::Check { files: [c, s, h] }) => check(&c, &s, &h),
         None => UNREADABLE.to_string(),
     }
@@ -128,8 +130,18 @@ fn release(given: Day, unit: u64) -> String {
     }
 }
 
-fn test(amounts: &[u64], place: usize, need: u64) -> String {
-    match capping::test(amounts, place, need) {
+fn test(one: &OneTest) -> String {
+    say_tested(capping::test(&one.amounts, one.place, one.need))
+}
+
+fn fed(one: &OneTest) -> String {
+    let mut fed = FedTest::begin(one.place, one.need);
+    one.amounts.iter().for_each(|&amount| fed.feed(amount));
+    say_tested(fed.ask())
+}
+
+fn say_tested(result: Result<(u64, Verdict), Refusal>) -> String {
+    match result {
         Ok((left, verdict)) => format!("ok {left} {verdict}"),
         Err(refusal) => say_no(refusal),
     }
@@ -141,7 +153,7 @@ fn check(constraint: &[u8], supply: &[u8], schedules: &[u8]) -> String {
 
 #[cfg(test)]
 mod tests {
-    use capping::{Kind, Verdict};
+    use capping::Kind;
 
     use super::*;
 
@@ -302,10 +314,36 @@ mod tests {
     }
 
     #[test]
-    fn tests_and_checks() {
-        assert_eq!(ask("test 2 3 4,3,2,1"), "ok 2 P");
-        assert_eq!(ask("test 3 3 4,3,2,1"), "ok 2 F");
-        assert_eq!(ask("test 3 0 ."), "no 11 0 0");
+    fn tests_of_a_list_and_fed() {
+        for word in ["test", "fed"] {
+            let say = |need: u64, place: u64, amounts: &str| ask(&format!("{word} {need} {place} {amounts}"));
+            let ones = |count: usize| vec!["1"; count].join(",");
+            assert_eq!(say(2, 3, "4,3,2,1"), "ok 2 P");
+            assert_eq!(say(3, 3, "4,3,2,1"), "ok 2 F");
+            assert_eq!(say(1, 0, "5,5"), "ok 0 F");
+            assert_eq!(say(0, 0, "5"), "ok 0 P");
+            for others in ["9,5,1", "5,9,1", "9,1,5"] {
+                assert_eq!(say(2, 0, &format!("7,{others}")), "ok 1 F", "{others}");
+            }
+            assert_eq!(say(u64::MAX, 1, "1,1000000000000"), "ok 0 F");
+            assert_eq!(say(29, 31, &ones(32)), "ok 29 P");
+            assert_eq!(say(3, 0, "."), "no 11 0 0");
+            assert_eq!(say(0, 3, "4,3"), "no 11 0 0");
+            for place in [2, 256, 1 << 32, u64::MAX] {
+                assert_eq!(say(0, place, "4,3"), "no 11 0 0", "{place}");
+            }
+            assert_eq!(say(0, 0, "1,1000000000001"), "no 11 0 0");
+            assert_eq!(say(0, 1, "1,1000000000001"), "no 11 0 0");
+            assert_eq!(say(0, 1, "1000000000001,4,3"), "no 11 0 0");
+            assert_eq!(say(0, 0, "18446744073709551615,18446744073709551615"), "no 11 0 0");
+            for count in [33, 257, 1_000] {
+                assert_eq!(say(0, 0, &ones(count)), "no 11 0 0", "{count}");
+            }
+        }
+    }
+
+    #[test]
+    fn checks_and_what_is_no_case() {
         assert_eq!(ask("check . . ."), "2");
         assert_eq!(ask(&format!("check {}", starred())), "0");
         assert_eq!(ask("no case"), "unreadable case");

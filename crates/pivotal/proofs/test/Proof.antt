@@ -1,53 +1,67 @@
--- The whole test: the refusals in their order, then left and the verdict. Assumes nothing.
-use mathlib.Core.Path.{sym, _∙_}
+-- The test of a run of amounts, which are fed one after the other. Assumes nothing.
+use Prim.Native.Nat.{_≤_, _-_}
+use mathlib.Core.Path.{_≡_, refl, sym, _∙_}
 use native.Mathlib.Omega.{arith}
-use Rattle.pivotal.proofs.Limits.{none-large, too-many, one-too-large, nowhere, somewhere}
 use borrow.Author.Needs.{needs}
+use lib.ListN.{length, drop}
+use Rattle.pivotal.specs.Fed.{begun, fedAll}
+use Rattle.pivotal.proofs.FeedingLaws.{fed-next, fed-end}
 use Rattle.pivotal.proofs.test.Statement.{statement}
 use Rattle.pivotal.proofs.test.Tie as tie
 
-returns : tie.Need-returns
-returns c = too-many _ _ _ (omega arith)
+abbrev Inv-loop : tie.InvT-loop
+Inv-loop amounts place need fed₀ i₀ fed i = (i ≤ length amounts) × (fedAll fed (drop i amounts) ≡ fedAll (begun place need) amounts)
 
-too-large-requires : tie.Need-too-large-requires
-too-large-requires c κs = search needs
+abbrev μ-loop : tie.MeasureT-loop
+μ-loop amounts place need fed₀ i₀ fed i = length amounts - i
 
-returns-2 : tie.Need-returns-2
-returns-2 c = one-too-large _ _ _ (omega arith) (sym (c .before .too-large .ensures) ∙ c .if2 .taken)
+begin-requires : tie.Need-begin-requires Inv-loop μ-loop
+begin-requires c κs = search needs
 
-returns-3 : tie.Need-returns-3
-returns-3 c =
-    nowhere _ _ _ (omega arith) (sym (c .before .before .too-large .ensures) ∙ c .before .if2 .left) (omega arith)
+loop-holds : tie.Need-loop-holds Inv-loop μ-loop
+loop-holds c = (omega arith, rw (c .begin .ensures) refl)
 
-left-requires : tie.Need-left-requires
-left-requires c κs =
-    record {
-      few = omega arith;
-      small = none-large _ (sym (c .before .before .too-large .ensures) ∙ c .before .if2 .left);
-    }
+mul-feed : tie.Need-mul-feed Inv-loop μ-loop
+mul-feed c = search needs
 
-found-requires : tie.Need-found-requires
-found-requires c κs = search needs
+shared-slice-read-feed : tie.Need-shared-slice-read-feed Inv-loop μ-loop
+shared-slice-read-feed c = omega arith
 
-returns-4 : tie.Need-returns-4
-returns-4 c =
-    let to = c .before .before in
-    somewhere _ _ _
-    (omega arith)
-    (sym (to .before .before .too-large .ensures) ∙ to .before .if2 .left)
-    _ (c .found .result)
-    (omega arith)
-    (c .before .left .ensures)
-    (rw (c .found .ensures, c .before .left .ensures))
+feed-requires : tie.Need-feed-requires Inv-loop μ-loop
+feed-requires c κs = search needs
+
+add-i : tie.Need-add-i Inv-loop μ-loop
+add-i c = omega arith
+
+loop-less : tie.Need-loop-less Inv-loop μ-loop
+loop-less c = omega arith
+
+loop-again : tie.Need-loop-again Inv-loop μ-loop
+loop-again c =
+    let loop = c .before .before .before .loop in
+    (omega arith, rw (c .feed .ensures) (sym (fed-next _ (loop .i) (loop .fed) (omega arith)) ∙ loop .inv .1))
+
+ask-requires : tie.Need-ask-requires Inv-loop μ-loop
+ask-requires c κs = search needs
+
+returns : tie.Need-returns Inv-loop μ-loop
+returns c =
+    let loop = c .before .before .loop in
+    c .ask .ensures _ _ _ (sym (fed-end _ (loop .i) (loop .fed) (omega arith)) ∙ loop .inv .1)
 
 pub test-spec : {M : Type 1} → statement M
 test-spec =
     tie.close
     (tie.spec
-    returns
-    too-large-requires
-    returns-2
-    returns-3
-    left-requires
-    found-requires
-    returns-4)
+    Inv-loop
+    μ-loop
+    begin-requires
+    loop-holds
+    mul-feed
+    shared-slice-read-feed
+    feed-requires
+    add-i
+    loop-less
+    loop-again
+    ask-requires
+    returns)

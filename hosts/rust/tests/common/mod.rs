@@ -24,6 +24,9 @@ pub const CURVE_11_ANSWER: &str = "unit,supplier,verdict,left,schedule,kind,cost
 /// The day after a study of the starred files.
 pub const STARRED_DAY: &str = "5;11:C:2,12:M:1,13:C:1,14:M:1";
 
+/// The largest amount that a test takes.
+pub const MOST_AMOUNT: u64 = 1_000_000_000_000;
+
 // Where in a day's cells what stands.
 pub const HAS_HOUR: usize = 0;
 pub const HOUR: usize = 1;

@@ -1,4 +1,4 @@
-//! Lone tests, releases, and lines that can't be read.
+//! Releases, and lines that can't be read.
 
 use super::draft::others_running;
 use super::faults::spoil_day;
@@ -6,54 +6,6 @@ use super::random::Random;
 use super::Line;
 use crate::case::Case;
 use crate::day::Day;
-use crate::pivotal::LARGEST_AMOUNT;
-
-/// A lone test, often with the need at what is left.
-pub fn make_test(random: &mut Random) -> Case {
-    let count = random.pick(&[0, 1, 2, 3, 3, 4, 4, 5, 5, 6, 8, 16, 31, 32, 32, 33, 64]);
-    let count = if random.once_in(100) { 1_000 } else { count };
-    let most = random.pick(&[1, 4, 10, 1_000, LARGEST_AMOUNT, LARGEST_AMOUNT]);
-    let mut amounts: Vec<u64> = (0..count).map(|_| random.scaled(most)).collect();
-    if count > 0 && random.percent(25) {
-        let place = random.index(count);
-        amounts[place] = random.pick(&[
-            LARGEST_AMOUNT,
-            LARGEST_AMOUNT,
-            LARGEST_AMOUNT,
-            LARGEST_AMOUNT - 1,
-            LARGEST_AMOUNT + 1,
-            u64::MAX,
-        ]);
-    }
-    if random.once_in(20) {
-        amounts.iter_mut().for_each(|amount| *amount = LARGEST_AMOUNT);
-    }
-    let place = match random.between(0, 19) {
-        0 => count as u64,
-        1 => count as u64 + 1,
-        2 => random.pick(&[u64::MAX, 1 << 32, 256]),
-        _ => random.between(0, (count as u64).max(1) - 1),
-    };
-    let need = make_need(&amounts, place, random);
-    Case::Test { need, place, amounts }
-}
-
-/// A need at or beside what the test leaves, or any other.
-fn make_need(amounts: &[u64], place: u64, random: &mut Random) -> u64 {
-    let others = amounts.iter().enumerate().filter(|(index, _)| *index as u64 != place);
-    let mut others: Vec<u64> = others.map(|(_, &amount)| amount).collect();
-    others.sort();
-    let left: u64 = others.iter().rev().skip(2).fold(0, |sum, &amount| sum.saturating_add(amount));
-    match random.between(0, 9) {
-        0 => 0,
-        1 => u64::MAX,
-        2 => random.any(),
-        3..=5 => left,
-        6..=7 => left.saturating_add(1),
-        8 => left.saturating_sub(1),
-        _ => random.scaled(LARGEST_AMOUNT),
-    }
-}
 
 /// A release, most often of a running unit.
 pub fn make_release(random: &mut Random) -> Case {
@@ -169,6 +121,19 @@ pub fn make_unreadable(random: &mut Random) -> Line {
         ("preview - . . . . 6g 11", true),
         ("preview x . . . . . 11", true),
         ("preview 5;11:X:1 . . . . . 11", true),
+        ("fed", true),
+        ("fed 1", true),
+        ("fed 1 0", true),
+        ("fed 1 0 x", true),
+        ("fed 1 x 1", true),
+        ("fed x 0 1", true),
+        ("fed 1 0 1,x", true),
+        ("fed 1 0 1,,2", true),
+        ("fed 1 0 -1", true),
+        ("fed 1 0 1 2", true),
+        ("fed 18446744073709551616 0 1,2", false),
+        ("fed 0 18446744073709551616 1,2", false),
+        ("fed 0 0 1,18446744073709551617", false),
         ("studies - . . . . . 47", true),
         ("5", true),
         ("-", true),

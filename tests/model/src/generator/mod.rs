@@ -1,7 +1,8 @@
 //! Cases made up from a seed: studies, previews and checks of every size and with every refusal, files to
-//! be handed back tidy, releases, lone tests, and lines that can't be read. The case of a seed and an index
-//! is always the same.
+//! be handed back tidy, releases, lone tests, fed ones among them, and lines that can't be read. The case of
+//! a seed and an index is always the same.
 
+pub mod amounts;
 mod curves;
 mod draft;
 mod faults;
@@ -20,6 +21,7 @@ use crate::answer::LONGEST;
 use crate::case::{Case, StudyFiles, ThreeFiles, LONGEST_BUFFER};
 use crate::day::Day;
 use crate::rules::Files;
+use amounts::make_lone;
 use draft::Draft;
 use faults::{make_faults, make_study_faults, spoil_draft, spoil_sheet, NUMBERS};
 use random::Random;
@@ -50,10 +52,11 @@ pub fn make(seed: u64, index: u64) -> Line {
     match random.between(0, 999) {
         0..=479 => Line::of(make_study(random)),
         480..=619 => Line::of(preview::make_preview(random)),
-        620..=779 => Line::of(tidy::make_tidy(random)),
-        780..=839 => Line::of(make_check(random)),
-        840..=909 => Line::of(lines::make_test(random)),
-        910..=969 => Line::of(lines::make_release(random)),
+        620..=769 => Line::of(tidy::make_tidy(random)),
+        770..=819 => Line::of(make_check(random)),
+        820..=869 => Line::of(Case::Test(make_lone(random))),
+        870..=919 => Line::of(Case::Fed(make_lone(random))),
+        920..=969 => Line::of(lines::make_release(random)),
         _ => lines::make_unreadable(random),
     }
 }

@@ -1,16 +1,12 @@
 -- Laws of totals, of amounts taken away and of the two largest amounts. Assumes nothing.
-use Prim.Native.Nat.{ℕ, zero, suc, _+_, _≤_, _<_}
+use Prim.Native.Nat.{ℕ, zero, suc, _+_, _≤_, min, max}
 use mathlib.Core.Path.{_≡_, refl, sym, _∙_, ap}
 use mathlib.Core.Logic.{_≢_, _⊎_, inl, inr, ⊎-elim}
-use mathlib.Core.Bool.{Bool, true, false, cond}
 use mathlib.Core.List.{List, [], _∷_}
-use native.Mathlib.Nat.{add-comm}
 use native.Mathlib.Omega.{arith}
-use lib.Dec.{ltb}
 use lib.ListN.{length, getD, set, List·getD-eq-default}
 use lib.Seq.{getD-set-other}
-use borrow.Author.Needs.{needs}
-use borrow.Author.Tests.{ltb-true, ltb-false}
+use Rattle.base.proofs.Tests.{lt-or-ge}
 use Rattle.pivotal.specs.declared.feeding.Largest.{Largest}
 use Rattle.pivotal.specs.Test.{total, noLargest, largestWith, largestAfter}
 
@@ -37,22 +33,12 @@ set-gone (a ∷ s) (suc p) = set-gone s p
 unfoldable pub both : Largest → ℕ
 both l = l .first + l .second
 
--- the three ways of feeding an amount
-module _ (l : Largest) (a : ℕ) (Q : Largest → Type 0) where
-  largest-cases :
-      (l .first < a → Q (record { first = a; second = l .first })) →
-      (a ≤ l .first → l .second < a → Q (record { first = l .first; second = a })) →
-      (a ≤ l .first → a ≤ l .second → Q l) →
-      Q (largestWith l a)
-  unfolding largestWith
-  largest-cases x y z = go (ltb (l .first) a) (ltb (l .second) a) refl refl
-    where
-      go :
-          (t u : Bool) → ltb (l .first) a ≡ t → ltb (l .second) a ≡ u →
-          Q (cond t (record { first = a; second = l .first }) (cond u (record { first = l .first; second = a }) l))
-      go true u e f = x (ltb-true _ _ e)
-      go false true e f = y (ltb-false _ _ e) (ltb-true _ _ f)
-      go false false e f = z (ltb-false _ _ e) (ltb-false _ _ f)
+-- the two largest with one amount more, each by itself
+pub largest-with :
+    (l : Largest) (a f g : ℕ) → f ≡ max (l .first) a → g ≡ max (l .second) (min (l .first) a) →
+    record { first = f; second = g } ≡ largestWith l a
+unfolding largestWith
+largest-with l a f g d e = rw (d, e)
 
 -- what the amount a makes of the two largest l
 record Feeds (l : Largest) (a : ℕ) (m : Largest) : Type 0 where
@@ -65,12 +51,17 @@ record Feeds (l : Largest) (a : ℕ) (m : Largest) : Type 0 where
   both-from : (both m ≡ both l) ⊎ (both m ≡ l .first + a)
 
 feeds : (l : Largest) (a : ℕ) → l .second ≤ l .first → Feeds l a (largestWith l a)
-unfolding both
+unfolding both largestWith
 feeds l a o =
-    largest-cases l a (Feeds l a)
-    (λ h. search (needs, inr, add-comm))
-    (λ h k. search (needs, inl, inr))
-    (λ h k. search (needs, inl))
+    record {
+      ordered = omega arith;
+      kept = omega arith;
+      reached = omega arith;
+      as-much = omega arith;
+      with-it = omega arith;
+      first-from = ⊎-elim (λ h. inr (omega arith)) (λ h. inl (omega arith)) (lt-or-ge (l .first) a);
+      both-from = ⊎-elim (λ h. inr (omega arith)) (λ h. inl (omega arith)) (lt-or-ge (l .second) a);
+    }
 
 -- no two of the amounts are more than the two largest together, nor is one beside an earlier first
 record Tops (l : Largest) (s : List ℕ) (n : ℕ) : Type 0 where

@@ -1,6 +1,6 @@
 -- The test fed one amount a call, by document 02, F-5: "begun with a place and a need, given one amount a call, then asked".
--- What is kept between calls is stated number by number; what it is good for says the promise of asking alone.
--- Assumes nothing; that any list can be fed is shown in `proofs/FeedingLaws`.
+-- What is kept between calls is stated number by number. It need not be believed: what asking promises, at the end, says what it
+-- is for, whatever is kept. Assumes nothing.
 use Prim.Native.Nat.{ℕ, _+_, _*_}
 use mathlib.Core.Path.{_≡_}
 use mathlib.Core.Bool.{Bool, cond, _&&_}
@@ -12,7 +12,7 @@ use Rattle.pivotal.specs.declared.feeding.FedTest.{FedTest}
 unfoldable pub begun : ℕ → ℕ → FedTest
 begun p need = record { place = p; need = need; count = 0; total = 0; largest = noLargest }
 
--- 32 amounts of at most 10^12 come to no more; a larger total was not made by feeding, and is not added to
+-- 32 amounts of at most 10^12 come to no more: a larger total was not made by feeding, and is not added to
 abbrev pub mostTotal : ℕ
 mostTotal = mostAmounts * mostAmount
 

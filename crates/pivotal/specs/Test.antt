@@ -1,7 +1,7 @@
 -- The pivotal test, by document 01, "Market and verdict", point 5, and refusal 11: amounts, one per supplier, the place
 -- of the supplier tested, and the need. To take a supplier away is to put 0 in its place.
 -- Assumes nothing; that left is the least that any removal leaves is shown in `proofs/Least`.
-use Prim.Native.Nat.{ℕ, _+_, _-_, _^_}
+use Prim.Native.Nat.{ℕ, _+_, _-_, _^_, min, max}
 use mathlib.Core.Bool.{Bool, false, cond, _||_}
 use mathlib.Core.List.{List, [], _∷_}
 use lib.Dec.{ltb, leb}
@@ -29,16 +29,13 @@ unfoldable pub total : List ℕ → ℕ
 total [] = 0
 total (a ∷ s) = a + total s
 
--- the two largest of no amounts: 0 where fewer exist
+-- the two largest of no amounts; it is 0 where fewer exist
 unfoldable pub noLargest : Largest
 noLargest = record { first = 0; second = 0 }
 
--- the two largest with one amount more
+-- the two largest with one amount more: the lesser of it and the first may be the second
 unfoldable pub largestWith : Largest → ℕ → Largest
-largestWith l a =
-    cond (ltb (l .first) a)
-    (record { first = a; second = l .first })
-    (cond (ltb (l .second) a) (record { first = l .first; second = a }) l)
+largestWith l a = record { first = max (l .first) a; second = max (l .second) (min (l .first) a) }
 
 unfoldable pub largestAfter : Largest → List ℕ → Largest
 largestAfter l [] = l

@@ -2,7 +2,7 @@
 // after the other, then asked. Between calls it is six plain numbers. Assumes nothing of them: one
 // that was not begun and fed here answers something, and no sum of it passes 64 bits.
 ghost use mathlib.Core.Path.{_≡_};
-ghost use Prim.Native.Nat.{_-_};
+ghost use Prim.Native.Nat.{_-_, min, max};
 ghost use Rattle.pivotal.specs.Test.{finding, testOutcome, testVerdict, largestWith};
 ghost use Rattle.pivotal.specs.Fed.{begun, takes as Fed·takes, other as Fed·other, fed, Answers};
 use crate::Answer;
@@ -29,19 +29,11 @@ impl Largest {
     fn with(self, amount: u64) -> Largest
         ensures { λ r. ⌜ r ≡ largestWith self amount ⌝ }
     {
-        if self.first < amount {
-            return Largest {
-                first: amount,
-                second: self.first,
-            };
+        let displaced = lesser(self.first, amount);
+        Largest {
+            first: greater(self.first, amount),
+            second: greater(self.second, displaced),
         }
-        if self.second < amount {
-            return Largest {
-                first: self.first,
-                second: amount,
-            };
-        }
-        self
     }
 }
 
@@ -126,6 +118,18 @@ impl FedTest {
     {
         if self.count == self.place { 0 } else { amount }
     }
+}
+
+fn greater(a: u64, b: u64) -> u64
+    ensures { λ r. ⌜ r ≡ max a b ⌝ }
+{
+    if a < b { b } else { a }
+}
+
+fn lesser(a: u64, b: u64) -> u64
+    ensures { λ r. ⌜ r ≡ min a b ⌝ }
+{
+    if a < b { a } else { b }
 }
 
 // The difference, 0 where there is none.

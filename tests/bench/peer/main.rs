@@ -3,13 +3,19 @@
 
 use std::process::ExitCode;
 
+use capping_bench::amounts::{Tests, Told};
 use capping_bench::engine::{Engine, Files};
-use peer::{Day, Outcome, Rules, TidyFile, WholeDay};
+use peer::{Day, Outcome, Refusal, Rules, Tested, TidyFile, Verdict, WholeDay};
 
-/// The requests of document 02 that bring tidy files, previews and parents.
+/// The requests of document 02 that bring tidy files, previews, the fed test and parents.
 const TIDY_FILES: u8 = 1;
 const PREVIEWS: u8 = 2;
+const FED_TEST: u8 = 5;
 const AFFILIATED_OWNERS: u8 = 6;
+
+/// The peer with the fed test. Its rules are made when this is compiled, since a test is over in the time that it may
+/// take to make them.
+const FEEDING: peer::Engine = peer::Engine::new(Rules::up_to(FED_TEST));
 
 const PEER: Engine = Engine {
     name: "peer",
@@ -18,7 +24,8 @@ const PEER: Engine = Engine {
         _ => study_affiliated(files, buffer),
     },
     preview: |files, unit| {
-        let (engine, files) = (peer::Engine::new(Rules::landed(&[PREVIEWS, AFFILIATED_OWNERS])), with_parents(files));
+        let (engine, files) =
+            (peer::Engine::new(Rules::landed(&[PREVIEWS, AFFILIATED_OWNERS])), with_parents(files));
         let unit = u16::try_from(unit).expect("a unit has four digits at most");
         engine.preview(&WholeDay::fresh(), &files, unit).map_or(0, |line| line.cost)
     },
@@ -28,6 +35,14 @@ const PEER: Engine = Engine {
         let engine = peer::Engine::new(Rules::landed(&[TIDY_FILES]));
         engine.tidy(TidyFile::Schedules, schedules, buffer).unwrap_or(0)
     }),
+    tests: Tests {
+        listed: |lone| told(peer::test(lone.need, lone.place as usize, &lone.amounts)),
+        fed: |lone| {
+            let mut fed = FEEDING.begin(lone.place, lone.need);
+            lone.amounts.iter().for_each(|&amount| fed.feed(amount));
+            told(FEEDING.ask(&fed))
+        },
+    },
     rounds_a_call: 1,
 };
 
@@ -49,6 +64,11 @@ fn study_affiliated(files: &Files, buffer: &mut [u8]) -> usize {
 fn with_parents<'a>(files: &Files<'a>) -> peer::Files<'a> {
     let three = peer::Files::three(files.constraint, files.supply, files.schedules);
     peer::Files { parents: files.parents, ..three }
+}
+
+/// What a test tells.
+fn told(tested: Result<Tested, Refusal>) -> Told {
+    tested.ok().map(|tested| (tested.left, tested.verdict == Verdict::Pass))
 }
 
 fn main() -> ExitCode {

@@ -1,4 +1,5 @@
-//! What is timed: an implementation's study and check, its preview of a unit, and its tidying of a schedules file.
+//! What is timed: an implementation's study and check, its preview of a unit, its tidying of a schedules file, and its tests
+//! of amounts, which [`crate::amounts`] is about.
 
 use capping::File;
 use capping_model::answer::LONGEST;
@@ -6,6 +7,7 @@ use capping_model::check::check;
 use capping_model::day::Day;
 pub use capping_model::rules::Files;
 
+use crate::amounts::Tests;
 use crate::study::Study;
 
 /// How many bytes the longest tidy schedules file has.
@@ -24,11 +26,13 @@ pub struct Engine {
     pub curves: bool,
     /// Hands a schedules file back tidy: the tidy file's length in the buffer, or 0 where it refuses the file.
     pub tidy: Option<fn(&[u8], &mut [u8]) -> usize>,
+    /// Tests one supplier by the amounts of all.
+    pub tests: Tests,
     /// How many rounds have one call; a slow engine is spared some.
     pub rounds_a_call: usize,
 }
 
-/// What an engine is asked.
+/// What an engine is asked of a study.
 #[derive(Clone, Copy)]
 pub enum Call {
     Study,
@@ -75,6 +79,7 @@ impl Engine {
         },
         curves: true,
         tidy: Some(|schedules, buffer| capping::tidy_into(File::Schedules, schedules, buffer).unwrap_or(0)),
+        tests: Tests::OURS,
         rounds_a_call: 1,
     };
 
@@ -86,8 +91,14 @@ impl Engine {
         check,
         curves: true,
         tidy: None,
+        tests: Tests::MODEL,
         rounds_a_call: 10,
     };
+
+    /// Whether the engine is called in a round.
+    pub fn has_turn(&self, round: usize) -> bool {
+        round.is_multiple_of(self.rounds_a_call)
+    }
 
     /// Whether the engine has a call.
     pub fn has(&self, call: Call) -> bool {

@@ -15,7 +15,8 @@ use capping_model::pivotal::{test_suppliers, Verdict};
 use capping_model::rules::{Files, Filing};
 use capping_model::table::{Constraint, Kind, Parent, Schedule, Supply};
 
-const SEED: u64 = 20_260_701;
+/// Of all that is made up.
+pub const SEED: u64 = 20_260_701;
 
 /// Supply rows of the sizes, the last one the most that there may be.
 const SUPPLY_ROWS: [usize; 6] = [4, 16, 32, 64, 128, MOST_SUPPLY_ROWS];

@@ -1,8 +1,8 @@
-//! The rounds: in each, every engine studies every study once and previews its last unit, and checks it and tidies its
-//! schedules where nothing is beside the three files, so that a load of the machine hits all alike.
+//! The rounds on studies: in each, every engine studies every study once and previews its last unit, and checks it and
+//! tidies its schedules where nothing is beside the three files, so that a load of the machine hits all alike.
 
 use std::hint::black_box;
-use std::time::{Duration, Instant};
+use std::time::Instant;
 
 use capping_model::answer::LONGEST;
 
@@ -11,16 +11,16 @@ use crate::study::Study;
 
 pub const ROUNDS: usize = 400;
 
-/// How long the calls of one engine on one study took, in nanoseconds.
+/// How long the calls of one engine on the same input took, in nanoseconds.
 #[derive(Clone, Default)]
 pub struct Times(Vec<f64>);
 
 impl Times {
-    fn add(&mut self, time: Duration) {
-        self.0.push(time.as_nanos() as f64);
+    pub fn add(&mut self, nanoseconds: f64) {
+        self.0.push(nanoseconds);
     }
 
-    pub fn calls(&self) -> usize {
+    pub fn count(&self) -> usize {
         self.0.len()
     }
 
@@ -67,7 +67,7 @@ fn measure_round(round: usize, engines: &[Engine], measured: &mut Measured) {
     let (files, three) = (study.lend(), study.files.lend());
     let (mut buffer, mut tidy_buffer) = ([0; LONGEST], [0; LONGEST_TIDY]);
     for (engine, times) in engines.iter().zip(&mut measured.times) {
-        if !round.is_multiple_of(engine.rounds_a_call) || !engine.makes(Call::Study, study) {
+        if !engine.has_turn(round) || !engine.makes(Call::Study, study) {
             continue;
         }
         times[Call::Study as usize].add(time(|| (engine.study)(black_box(&files), black_box(&mut buffer))));
@@ -83,13 +83,13 @@ fn measure_round(round: usize, engines: &[Engine], measured: &mut Measured) {
     }
 }
 
-/// How long a call takes right after another such call: so none pays for what the one of another engine has left
-/// in the processor's caches.
-fn time<T>(mut call: impl FnMut() -> T) -> Duration {
+/// How many nanoseconds a call takes right after another such call: so none pays for what the one of another engine has
+/// left in the processor's caches.
+pub fn time<T>(mut call: impl FnMut() -> T) -> f64 {
     black_box(call());
     let start = Instant::now();
     black_box(call());
-    start.elapsed()
+    start.elapsed().as_nanos() as f64
 }
 
 #[cfg(test)]

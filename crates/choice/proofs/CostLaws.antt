@@ -31,8 +31,8 @@ use Rattle.choice.specs.promises.Steps.{ownShare}
 
 price-small : (k : Kind) (listed : ℕ) → listed ≤ highestCost → offerPrice k listed ≤ highestCost
 unfolding offerPrice
-price-small M listed h = h
-price-small C listed h = offer-small listed h
+price-small M listed h = omega (arith, h, offer-small listed h)
+price-small C listed h = omega (arith, h, offer-small listed h)
 
 module _ (row : ScheduleRow) (r : PermittedSchedule row) where
   pub output-small : row .ecomin * price row ≤ highestEcomin * highestCost

@@ -86,9 +86,8 @@ uint64_t capping_longest_tidy(uint64_t file);
 
 /* Tests one supplier: amounts, one per supplier, the place of the one tested (from 0), and the need.
  *
- * Stores what is left without the supplier and its two largest others, and answers CAPPING_F where that is at or below the need,
- * else CAPPING_P. With more than 32 amounts, an amount above 10^12 or no such place it answers CAPPING_TEST_REFUSED, and `left`
- * stays as it was. */
+ * Answers CAPPING_P or CAPPING_F and stores what is left without the supplier and its two largest others. With more than 32
+ * amounts, an amount above 10^12 or no such place it answers CAPPING_TEST_REFUSED, and `left` stays as it was. */
 uint64_t capping_test(const uint64_t *amounts, size_t amounts_len, uint64_t place, uint64_t need, uint64_t *left);
 
 /* The same test fed one amount a call, for suppliers' totals that come as a stream. The caller keeps its cells, CAPPING_FED_CELLS

@@ -52,12 +52,12 @@ int main(void) {
     fwrite(tidy, 1, count, stdout);
 
     uint64_t amounts[] = {4, 3, 2, 1}, left;
-    if (capping_test(amounts, 4, 3, 2, &left) == CAPPING_F) printf("F, left %d\n", (int)left);
+    if (capping_test(amounts, 4, 3, 2, &left) == CAPPING_P) printf("P, left %d\n", (int)left);
 
     uint64_t fed[CAPPING_FED_CELLS];
     capping_fed_begin(fed, 3, 2);
     for (int i = 0; i < 4; i++)
         capping_fed_feed(fed, amounts[i]);
-    if (capping_fed_ask(fed, &left) == CAPPING_F) printf("F, left %d\n", (int)left);
+    if (capping_fed_ask(fed, &left) == CAPPING_P) printf("P, left %d\n", (int)left);
     return 0;
 }

@@ -44,8 +44,6 @@ static const struct study studies[] = {
     {"a buffer one short", sizeof STARRED_ANSWER - 2, "", {10, 0, 0}, STARRED},
     {"no room at all", 0, "", {10, 0, 0}, STARRED},
     {"no units", sizeof ANSWER_HEADER - 1, ANSWER_HEADER, {0, 0, 0}, NO_UNITS},
-    {"more than the need is left", ENOUGH, FOUR_PASS_ANSWER, {0, 0, 0}, FOUR_ALIKE("499")},
-    {"just the need is left", ENOUGH, FOUR_FAIL_ANSWER, {0, 0, 0}, FOUR_ALIKE("500")},
     {"empty constraint", 0, "", {2, 1, 0}, {"", TWO_UNITS, BOTH_UNITS}},
     {"text behind a closing quote", 99, "", {1, 2, 0}, {HOUR_5, TWO_UNITS "\"13\"3", BOTH_UNITS}},
     {"ten fields in the third schedule row", 99, "", {2, 3, 3}, {HOUR_5, TWO_UNITS, BOTH_UNITS "12,2,C,5,100,3000,0,0,1,1\r\n"}},
@@ -85,10 +83,10 @@ static const struct study_beside parents_studies[] = {
 };
 
 static const struct one_test tests[] = {
-    {"the last of four at need 1", {4, 3, 2, 1}, 4, 3, 1, CAPPING_P, 2},
-    {"the last of four at need 2", {4, 3, 2, 1}, 4, 3, 2, CAPPING_F, 2},
+    {"the last of four at need 2", {4, 3, 2, 1}, 4, 3, 2, CAPPING_P, 2},
+    {"the last of four at need 3", {4, 3, 2, 1}, 4, 3, 3, CAPPING_F, 2},
     {"no two others exist", {5, 5}, 2, 0, 1, CAPPING_F, 0},
-    {"need 0", {5}, 1, 0, 0, CAPPING_F, 0},
+    {"need 0", {5}, 1, 0, 0, CAPPING_P, 0},
     {"the largest need", {MOST_AMOUNT, MOST_AMOUNT, MOST_AMOUNT, MOST_AMOUNT}, 4, 1, UINT64_MAX, CAPPING_F, MOST_AMOUNT},
     {"32 amounts of 0", {0}, 32, 31, 1, CAPPING_F, 0},
     {"33 amounts", {0}, 33, 0, 1, CAPPING_TEST_REFUSED, UNTOUCHED},

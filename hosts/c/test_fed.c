@@ -9,27 +9,25 @@
 #define MOST_AMOUNTS 32
 
 static const struct one_test lists[] = {
-    {"the last of four at need 1", {4, 3, 2, 1}, 4, 3, 1, CAPPING_P, 2},
-    {"the last of four at need 2", {4, 3, 2, 1}, 4, 3, 2, CAPPING_F, 2},
+    {"the last of four at need 2", {4, 3, 2, 1}, 4, 3, 2, CAPPING_P, 2},
     {"the last of four at need 3", {4, 3, 2, 1}, 4, 3, 3, CAPPING_F, 2},
     {"no two others exist", {5, 5}, 2, 0, 1, CAPPING_F, 0},
     {"no other exists", {5}, 1, 0, 1, CAPPING_F, 0},
-    {"need 0 and nothing left", {5}, 1, 0, 0, CAPPING_F, 0},
-    {"need 0 and 1 left", {1, 1, 1, 1}, 4, 0, 0, CAPPING_P, 1},
-    {"others 9, 5, 1", {7, 9, 5, 1}, 4, 0, 0, CAPPING_P, 1},
-    {"others 5, 9, 1", {7, 5, 9, 1}, 4, 0, 0, CAPPING_P, 1},
-    {"others 9, 1, 5", {7, 9, 1, 5}, 4, 0, 0, CAPPING_P, 1},
-    {"others 1, 9, 5", {7, 1, 9, 5}, 4, 0, 0, CAPPING_P, 1},
-    {"others 5, 1, 9", {7, 5, 1, 9}, 4, 0, 1, CAPPING_F, 1},
-    {"others 1, 5, 9", {7, 1, 5, 9}, 4, 0, 1, CAPPING_F, 1},
-    {"the own amount behind the largest", {9, 7, 5, 1}, 4, 1, 0, CAPPING_P, 1},
-    {"the own amount behind all", {9, 1, 5, 7}, 4, 3, 1, CAPPING_F, 1},
-    {"the own amount is the largest, and first", {9, 4, 3, 2}, 4, 0, 1, CAPPING_P, 2},
-    {"the own amount is the largest, and last", {4, 3, 2, 9}, 4, 3, 2, CAPPING_F, 2},
-    {"all are alike", {5, 5, 5, 5}, 4, 2, 5, CAPPING_F, 5},
-    {"all are alike, one less is needed", {5, 5, 5, 5}, 4, 2, 4, CAPPING_P, 5},
+    {"need 0", {5}, 1, 0, 0, CAPPING_P, 0},
+    {"others 9, 5, 1", {7, 9, 5, 1}, 4, 0, 1, CAPPING_P, 1},
+    {"others 5, 9, 1", {7, 5, 9, 1}, 4, 0, 1, CAPPING_P, 1},
+    {"others 9, 1, 5", {7, 9, 1, 5}, 4, 0, 1, CAPPING_P, 1},
+    {"others 1, 9, 5", {7, 1, 9, 5}, 4, 0, 1, CAPPING_P, 1},
+    {"others 5, 1, 9", {7, 5, 1, 9}, 4, 0, 2, CAPPING_F, 1},
+    {"others 1, 5, 9", {7, 1, 5, 9}, 4, 0, 2, CAPPING_F, 1},
+    {"the own amount behind the largest", {9, 7, 5, 1}, 4, 1, 1, CAPPING_P, 1},
+    {"the own amount behind all", {9, 1, 5, 7}, 4, 3, 2, CAPPING_F, 1},
+    {"the own amount is the largest, and first", {9, 4, 3, 2}, 4, 0, 2, CAPPING_P, 2},
+    {"the own amount is the largest, and last", {4, 3, 2, 9}, 4, 3, 3, CAPPING_F, 2},
+    {"all are alike", {5, 5, 5, 5}, 4, 2, 5, CAPPING_P, 5},
+    {"all are alike, one more is needed", {5, 5, 5, 5}, 4, 2, 6, CAPPING_F, 5},
     {"the largest need", {MOST_AMOUNT, MOST_AMOUNT, MOST_AMOUNT, MOST_AMOUNT}, 4, 1, UINT64_MAX, CAPPING_F, MOST_AMOUNT},
-    {"an own amount of 10^12", {1, MOST_AMOUNT}, 2, 1, 0, CAPPING_F, 0},
+    {"an own amount of 10^12", {1, MOST_AMOUNT}, 2, 1, 0, CAPPING_P, 0},
     {"an own amount above 10^12", {1, TOO_LARGE}, 2, 1, 0, CAPPING_TEST_REFUSED, UNTOUCHED},
     {"another's amount above 10^12", {1, TOO_LARGE}, 2, 0, 0, CAPPING_TEST_REFUSED, UNTOUCHED},
     {"no amounts", {0}, 0, 0, 0, CAPPING_TEST_REFUSED, UNTOUCHED},
@@ -50,8 +48,8 @@ struct run {
 };
 
 static const struct run runs[] = {
-    {"32 amounts of 10^12", MOST_AMOUNT, MOST_AMOUNT, 31, 31, 29 * MOST_AMOUNT, CAPPING_F, 29 * MOST_AMOUNT},
-    {"32 amounts of 10^12, one less is needed", MOST_AMOUNT, MOST_AMOUNT, 31, 0, 29 * MOST_AMOUNT - 1, CAPPING_P, 29 * MOST_AMOUNT},
+    {"32 amounts of 10^12", MOST_AMOUNT, MOST_AMOUNT, 31, 31, 29 * MOST_AMOUNT, CAPPING_P, 29 * MOST_AMOUNT},
+    {"32 amounts of 10^12, one more is needed", MOST_AMOUNT, MOST_AMOUNT, 31, 0, 29 * MOST_AMOUNT + 1, CAPPING_F, 29 * MOST_AMOUNT},
     {"31 amounts and place 31", 1, 1, 30, 31, 0, CAPPING_TEST_REFUSED, UNTOUCHED},
     {"33 amounts", 1, 1, 32, 0, 0, CAPPING_TEST_REFUSED, UNTOUCHED},
     {"33 amounts and place 32", 1, 1, 32, 32, 0, CAPPING_TEST_REFUSED, UNTOUCHED},
@@ -77,7 +75,7 @@ static const struct stage last_of_four[] = {
     {4, CAPPING_TEST_REFUSED, UNTOUCHED},
     {3, CAPPING_TEST_REFUSED, UNTOUCHED},
     {2, CAPPING_TEST_REFUSED, UNTOUCHED},
-    {1, CAPPING_F, 2},
+    {1, CAPPING_P, 2},
     {5, CAPPING_P, 5},
     {TOO_LARGE, CAPPING_TEST_REFUSED, UNTOUCHED},
     {1, CAPPING_TEST_REFUSED, UNTOUCHED},
@@ -152,12 +150,12 @@ static void expect_stages(const char *name, uint64_t place, uint64_t need, const
 /* Amounts of 1, asked behind each: all but the own and two others are left, until there are too many. */
 static void expect_each_count(void) {
     uint64_t *fed = untouched(FED_BYTES);
-    const uint64_t need = MOST_AMOUNTS - 4;
+    const uint64_t need = MOST_AMOUNTS - 3;
     capping_fed_begin(fed, 0, need);
     for (uint64_t count = 1; count <= 300; count++) {
         uint64_t left = count > 3 ? count - 3 : 0;
         capping_fed_feed(fed, 1);
-        if (count <= MOST_AMOUNTS) expect_asked("amounts of 1", fed, left <= need ? CAPPING_F : CAPPING_P, left);
+        if (count <= MOST_AMOUNTS) expect_asked("amounts of 1", fed, left < need ? CAPPING_F : CAPPING_P, left);
         else expect_asked("too many amounts of 1", fed, CAPPING_TEST_REFUSED, UNTOUCHED);
     }
     free(fed);
@@ -213,7 +211,7 @@ static void expect_random_cells(void) {
 /* Cells of tests that were refused, one with too many amounts and one with too large a one, are begun again. */
 static void expect_new_start(void) {
     static const struct one_test after[] = {
-        {"a new start behind 33 amounts", {4, 3, 2, 1}, 4, 3, 1, CAPPING_P, 2},
+        {"a new start behind 33 amounts", {4, 3, 2, 1}, 4, 3, 2, CAPPING_P, 2},
         {"a new start behind a large amount", {5, 5}, 2, 0, 1, CAPPING_F, 0},
         {"a new start with no amount", {0}, 0, 0, 0, CAPPING_TEST_REFUSED, UNTOUCHED},
     };
@@ -234,7 +232,7 @@ int main(void) {
     for (size_t i = 0; i < sizeof runs / sizeof *runs; i++)
         expect_run(&runs[i]);
     expect_stages("the last of four", 3, 2, last_of_four, sizeof last_of_four / sizeof *last_of_four);
-    expect_stages("the second of six", 1, 3, second_of_six, sizeof second_of_six / sizeof *second_of_six);
+    expect_stages("the second of six", 1, 4, second_of_six, sizeof second_of_six / sizeof *second_of_six);
     expect_each_count();
     expect_new_start();
     expect_edges_in_cells();

@@ -12,21 +12,21 @@
 /* A line of an answer file: five numbers of 20 digits, two letters, the commas, two CR LF and the 0 at the end. */
 #define LINE_ROOM 120
 
-/* The starred rows of the answer, as cells, and unit 14's where suppliers are affiliated, and where its supplier passes. */
+/* The starred rows of the answer, as cells, and unit 14's where suppliers are affiliated. */
 #define ROW_11 {11, 1, 'F', 0, 2, 'C', 1030000}
 #define ROW_12 {12, 2, 'F', 0, 1, 'M', 330000}
 #define ROW_13 {13, 3, 'F', 0, 1, 'C', 890000}
 #define ROW_14 {14, 4, 'F', 5000000, 1, 'M', 500000}
 #define AFFILIATED_14 {14, 4, 'F', 0, 1, 'M', 500000}
-#define PASSING_14 {14, 4, 'P', 5000000, 1, 'M', 500000}
 
 /* The starred supply in another order, with unit 11's in two rows. */
 #define SHUFFLED \
     {HOUR_5, SUPPLY "14,4,2000,2000,200\r\n13,3,1000,4000,5000\r\n11,1,400,3000,5000\r\n12,2,1000,3000,-5000\r\n" \
                     "11,1,600,3000,5000\r\n", STARRED_SCHEDULES}
 
-/* The starred files with another relief: 500 needs just what is left for unit 14, and 1500 just all that is eligible. */
-#define AT_RELIEF(relief) {CONSTRAINT "5," relief ",300\r\n", STARRED_SUPPLY, STARRED_SCHEDULES}
+/* Other needs: one that is below what is left for unit 14, and one above all that is eligible. */
+#define RELIEF_499 {CONSTRAINT "5,499,300\r\n", STARRED_SUPPLY, STARRED_SCHEDULES}
+#define RELIEF_1501 {CONSTRAINT "5,1501,300\r\n", STARRED_SUPPLY, STARRED_SCHEDULES}
 
 /* Fields as large as they may be: 100000 tenths of a MW at 370000, with no-load and startup ten times each. */
 #define LARGEST \
@@ -74,15 +74,9 @@ static const struct day_preview accepted[] = {
     {"-", {"another unit than the curve's", {CURVE_11, ""}, 14, ROW_14, {0, 0, 0}, STARRED}},
     {STARRED_DAY, {"unit 11 runs, with a curve", {CURVE_11, ""}, 11, {11, 1, 'F', 0, 2, 'C', 720000}, {0, 0, 0}, STARRED}},
     {"-", {"a curve and affiliated suppliers", {CURVE_11, PARENTS "1,2\r\n"}, 14, AFFILIATED_14, {0, 0, 0}, STARRED}},
-    {"-", {"unit 14 passes", NONE, 14, PASSING_14, {0, 0, 0}, AT_RELIEF("499")}},
-    {"-", {"unit 14 fails and isn't exposed", NONE, 14, ROW_14, {0, 0, 0}, AT_RELIEF("500")}},
-    {"-", {"unit 14 of four alike passes", NONE, 14, PASSING_14, {0, 0, 0}, FOUR_ALIKE("499")}},
-    {"-", {"unit 14 of four alike fails", NONE, 14, {14, 4, 'F', 5000000, 2, 'C', 220000}, {0, 0, 0}, FOUR_ALIKE("500")}},
-    {"-", {"unit 11 of four alike passes", NONE, 11, {11, 1, 'P', 5000000, 1, 'M', 1100000}, {0, 0, 0}, FOUR_ALIKE("499")}},
-    {"-", {"unit 11 of four alike fails", NONE, 11, {11, 1, 'F', 5000000, 2, 'C', 1030000}, {0, 0, 0}, FOUR_ALIKE("500")}},
-    {"-", {"unit 14 can just be tested", NONE, 14, ROW_14, {0, 0, 0}, AT_RELIEF("1500")}},
-    {"-", {"unit 14 can't be tested", NONE, 14, {14, 4, 'U', 0, 1, 'M', 500000}, {0, 0, 0}, AT_RELIEF("1501")}},
-    {"-", {"unit 11 can't be tested", NONE, 11, {11, 1, 'U', 0, 2, 'C', 1030000}, {0, 0, 0}, AT_RELIEF("1501")}},
+    {"-", {"unit 14 passes", NONE, 14, {14, 4, 'P', 5000000, 1, 'M', 500000}, {0, 0, 0}, RELIEF_499}},
+    {"-", {"unit 14 can't be tested", NONE, 14, {14, 4, 'U', 0, 1, 'M', 500000}, {0, 0, 0}, RELIEF_1501}},
+    {"-", {"unit 11 can't be tested", NONE, 11, {11, 1, 'U', 0, 2, 'C', 1030000}, {0, 0, 0}, RELIEF_1501}},
     {"23;", {"the largest fields", NONE, 9999, {9999, 999, 'U', 0, 99, 'C', 39000000000}, {0, 0, 0}, LARGEST}},
 };
 

@@ -63,7 +63,7 @@ static int feed_once(void) {
     capping_fed_begin(fed, 3, 2);
     for (uint64_t amount = 4; amount > 0; amount--)
         capping_fed_feed(fed, amount);
-    wrong += capping_fed_ask(fed, &left) != CAPPING_F || left != 2;
+    wrong += capping_fed_ask(fed, &left) != CAPPING_P || left != 2;
     wrong += capping_fed_ask(shared_fed, &left) != CAPPING_F || left != 0;
     return wrong;
 }

@@ -80,20 +80,8 @@ struct beside {
 #define STARRED {HOUR_5, STARRED_SUPPLY, STARRED_SCHEDULES}
 #define NO_UNITS {HOUR_5, SUPPLY, SCHEDULES}
 
-/* The starred files at a relief, with unit 14's supply like the others': each of four suppliers then has 5000000 that is relevant,
- * and as much is left for each. That is just the need at relief 500, so that all units are exposed, and above it at 499. */
-#define FOUR_ALIKE(relief) \
-    {CONSTRAINT "5," relief ",300\r\n", \
-     SUPPLY "11,1,1000,3000,5000\r\n12,2,1000,3000,-5000\r\n13,3,1000,4000,5000\r\n14,4,1000,3000,5000\r\n", STARRED_SCHEDULES}
-#define FOUR_FAIL_ANSWER \
-    ANSWER_HEADER "11,1,F,5000000,2,C,1030000\r\n12,2,F,5000000,1,M,330000\r\n13,3,F,5000000,1,C,890000\r\n" \
-                  "14,4,F,5000000,2,C,220000\r\n"
-#define FOUR_PASS_ANSWER \
-    ANSWER_HEADER "11,1,P,5000000,1,M,1100000\r\n12,2,P,5000000,1,M,330000\r\n13,3,P,5000000,1,C,890000\r\n" \
-                  "14,4,P,5000000,1,M,500000\r\n"
-
 /* Room for any answer here. */
-#define ENOUGH 160
+#define ENOUGH 150
 
 /* A study: how long a buffer is lent, what is written or else what is reported. */
 struct study {

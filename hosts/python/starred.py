@@ -25,16 +25,6 @@ STARRED_ANSWER = ANSWER + b"11,1,F,0,2,C,1030000\r\n12,2,F,0,1,M,330000\r\n13,3,
 # The same where any two of its suppliers are affiliated: unit 14's own group and two others are then all that supply.
 AFFILIATED_ANSWER = STARRED_ANSWER.replace(b"14,4,F,5000000,", b"14,4,F,0,")
 
-# The starred supply with unit 14's like the others': each of four suppliers then has 5000000 that is relevant, and as much is left
-# for each. And the answers by relief: that is above the need, and then just the need, so that all units are exposed.
-FOUR_ALIKE = STARRED_SUPPLY.replace(b"14,4,2000,2000,200\r\n", b"14,4,1000,3000,5000\r\n")
-FOUR_ALIKE_ANSWERS = {
-    499: ANSWER
-    + b"11,1,P,5000000,1,M,1100000\r\n12,2,P,5000000,1,M,330000\r\n13,3,P,5000000,1,C,890000\r\n14,4,P,5000000,1,M,500000\r\n",
-    500: ANSWER
-    + b"11,1,F,5000000,2,C,1030000\r\n12,2,F,5000000,1,M,330000\r\n13,3,F,5000000,1,C,890000\r\n14,4,F,5000000,2,C,220000\r\n",
-}
-
 # A curve of unit 11's C schedule, and the answer with it: the first point at or above ecomin, 100, is the second, so the price is
 # 2000 and capped 2200, and the cost 100 * 2200 + 10 * 50000 + 10 * 20000.
 CURVE_11 = CURVES + b"11,2,5,50,1000\r\n11,2,5,100,2000\r\n"
@@ -47,11 +37,6 @@ STARRED_DAY = "5;11:C:2,12:M:1,13:C:1,14:M:1"
 # The largest number that a call takes, and the largest amount that a test takes.
 LARGEST = 2**64 - 1
 MOST_AMOUNT = 10**12
-
-
-def at_relief(relief, supply=STARRED_SUPPLY):
-    """The starred files with another relief, and maybe another supply."""
-    return (CONSTRAINT + b"5,%d,300\r\n" % relief, supply, STARRED_SCHEDULES)
 
 
 def quoted(content):

@@ -459,11 +459,10 @@ class Usage(Case):
             printed = self.run_command(*arguments, "--help").stdout
             self.assertIn(b"that its name or --as\nsays it is", printed)
 
-    def test_help_says_where_amounts_are_read_and_what_f_means(self):
+    def test_help_says_where_amounts_are_read(self):
         for arguments in ((), ("test",)):
             printed = self.run_command(*arguments, "--help").stdout
             self.assertIn(b"A test reads amounts from standard input, one numeral a line", printed)
-            self.assertIn(b"and F where that is at or below NEED, else P", printed)
 
     def test_numbers_of_many_digits(self):
         self.fails(1, "refused with 31: ", "preview", "9" * 5000, self.folder)

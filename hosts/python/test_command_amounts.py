@@ -17,19 +17,19 @@ PATIENCE = 60
 
 class Answers(Case):
     def test_verdicts(self):
-        self.answers(b"2,P\n", "test", 3, 1, given=b"4\n3\n2\n1\n")
-        self.answers(b"2,F\n", "test", 3, 2, given=b"4\n3\n2\n1\n")
+        self.answers(b"2,P\n", "test", 3, 2, given=b"4\n3\n2\n1\n")
+        self.answers(b"2,F\n", "test", 3, 3, given=b"4\n3\n2\n1\n")
         self.answers(b"0,F\n", "test", 0, 1, given=b"5\n5\n")
-        self.answers(b"0,F\n", "test", 0, 0, given=b"0\n")
+        self.answers(b"0,P\n", "test", 0, 0, given=b"0\n")
         self.answers(b"0,F\n", "test", 0, LARGEST, given=b"5\n")
 
     def test_line_ends(self):
-        self.answers(b"2,F\n", "test", 3, 2, given=b"4\n3\n2\n1")
-        self.answers(b"2,F\n", "test", 3, 2, given=b"4\r\n3\r\n2\r\n1\r\n")
-        self.answers(b"2,F\n", "test", 3, 2, given=b"4\r\n3\n2\r\n1")
+        self.answers(b"2,P\n", "test", 3, 2, given=b"4\n3\n2\n1")
+        self.answers(b"2,P\n", "test", 3, 2, given=b"4\r\n3\r\n2\r\n1\r\n")
+        self.answers(b"2,P\n", "test", 3, 2, given=b"4\r\n3\n2\r\n1")
 
     def test_limits(self):
-        self.answers(b"29000000000000,F\n", "test", 31, 29 * 10**12, given=b"1000000000000\n" * 32)
+        self.answers(b"29000000000000,P\n", "test", 31, 29 * 10**12, given=b"1000000000000\n" * 32)
 
     def test_answer_that_cant_be_printed(self):
         with open("/dev/full", "wb") as full:

@@ -58,36 +58,34 @@ class FedCase(Case):
 
 class Answers(FedCase):
     def test_verdicts(self):
-        self.answers([4, 3, 2, 1], 3, 1, (2, "P"))
-        self.answers([4, 3, 2, 1], 3, 2, (2, "F"))
+        self.answers([4, 3, 2, 1], 3, 2, (2, "P"))
         self.answers([4, 3, 2, 1], 3, 3, (2, "F"))
         self.answers([5, 5], 0, 1, (0, "F"))
         self.answers([5], 0, 1, (0, "F"))
-        self.answers([5], 0, 0, (0, "F"))
-        self.answers([1, 1, 1, 1], 0, 0, (1, "P"))
-        self.answers([5, 5, 5, 5], 2, 4, (5, "P"))
-        self.answers([5, 5, 5, 5], 2, 5, (5, "F"))
+        self.answers([5], 0, 0, (0, "P"))
+        self.answers([5, 5, 5, 5], 2, 5, (5, "P"))
+        self.answers([5, 5, 5, 5], 2, 6, (5, "F"))
 
     def test_two_largest_in_any_order(self):
         for others in itertools.permutations((9, 5, 1)):
             for place in range(4):
                 amounts = [*others[:place], 7, *others[place:]]
-                self.answers(amounts, place, 0, (1, "P"))
-                self.answers(amounts, place, 1, (1, "F"))
+                self.answers(amounts, place, 1, (1, "P"))
+                self.answers(amounts, place, 2, (1, "F"))
         self.answers([7, 9, 5], 0, 1, (0, "F"))
         self.answers([7, 5, 9], 0, 1, (0, "F"))
 
     def test_own_amount_is_the_largest(self):
-        self.answers([9, 4, 3, 2], 0, 1, (2, "P"))
-        self.answers([4, 9, 3, 2], 1, 1, (2, "P"))
-        self.answers([4, 3, 2, 9], 3, 2, (2, "F"))
+        self.answers([9, 4, 3, 2], 0, 2, (2, "P"))
+        self.answers([4, 9, 3, 2], 1, 2, (2, "P"))
+        self.answers([4, 3, 2, 9], 3, 3, (2, "F"))
 
     def test_limits(self):
         left = 29 * MOST_AMOUNT
-        self.answers([MOST_AMOUNT] * MOST_AMOUNTS, 31, left - 1, (left, "P"))
-        self.answers([MOST_AMOUNT] * MOST_AMOUNTS, 0, left, (left, "F"))
+        self.answers([MOST_AMOUNT] * MOST_AMOUNTS, 31, left, (left, "P"))
+        self.answers([MOST_AMOUNT] * MOST_AMOUNTS, 0, left + 1, (left, "F"))
         self.answers([MOST_AMOUNT] * 4, 1, LARGEST, (MOST_AMOUNT, "F"))
-        self.answers([1, MOST_AMOUNT], 1, 0, (0, "F"))
+        self.answers([1, MOST_AMOUNT], 1, 0, (0, "P"))
 
 
 class Refused(FedCase):
@@ -140,13 +138,13 @@ class InBetween(FedCase):
             self.asked(test, answer)
 
     def test_asked(self):
-        self.stages(3, 2, [(4, None), (3, None), (2, None), (1, (2, "F")), (5, (5, "P")), (TOO_LARGE, None), (1, None)])
-        self.stages(1, 3, [(6, None), (2, (0, "F")), (5, (0, "F")), (3, (3, "F")), (1, (4, "P")), (9, (9, "P"))])
+        self.stages(3, 2, [(4, None), (3, None), (2, None), (1, (2, "P")), (5, (5, "P")), (TOO_LARGE, None), (1, None)])
+        self.stages(1, 4, [(6, None), (2, (0, "F")), (5, (0, "F")), (3, (3, "F")), (1, (4, "P")), (9, (9, "P"))])
 
     def test_asked_behind_each_of_many(self):
         """Amounts of 1: all but the own and two others are left, until there are too many."""
         few = [(1, (max(count - 3, 0), "F")) for count in range(1, MOST_AMOUNTS)]
-        self.stages(0, 28, [*few, (1, (29, "P")), *[(1, None)] * 300])
+        self.stages(0, 29, [*few, (1, (29, "P")), *[(1, None)] * 300])
 
     def test_an_iterable_is_fed_as_it_comes(self):
         test = FedTest(3, 2)
@@ -157,7 +155,7 @@ class InBetween(FedCase):
                 yield amount
 
         test.extend(totals())
-        self.asked(test, (2, "F"))
+        self.asked(test, (2, "P"))
         test.extend(())
         test.extend({5: "a supplier's total"})
         self.asked(test, (5, "P"))
@@ -171,7 +169,7 @@ class InBetween(FedCase):
             test = FedTest.from_cells(used)
             self.asked(test, None)
             test.extend([4, 3, 2, 1])
-            self.asked(test, (2, "F"))
+            self.asked(test, (2, "P"))
 
 
 class Arguments(FedCase):
@@ -183,7 +181,7 @@ class Arguments(FedCase):
     def test_by_name(self):
         test = FedTest(need=2, place=3)
         test.extend([4, 3, 2, 1])
-        self.asked(test, (2, "F"))
+        self.asked(test, (2, "P"))
 
     def test_no_number(self):
         test = fed([4, 3, 2, 1], 3, 2)
@@ -193,7 +191,7 @@ class Arguments(FedCase):
                     call(other)
             with self.assertRaises(TypeError):
                 test.extend([other])
-        self.asked(test, (2, "F"))
+        self.asked(test, (2, "P"))
 
 
 class Value(FedCase):
@@ -202,7 +200,7 @@ class Value(FedCase):
             test = fed([4, 3, 2], 3, 2)
             other = copied(test)
             other.feed(1)
-            self.asked(other, (2, "F"))
+            self.asked(other, (2, "P"))
             self.asked(test, None)
 
     def test_cells(self):
@@ -210,7 +208,7 @@ class Value(FedCase):
         self.assertEqual(len(test.cells), capping.FED_CELLS)
         stored = FedTest.from_cells(list(test.cells))
         stored.feed(1)
-        self.asked(stored, (2, "F"))
+        self.asked(stored, (2, "P"))
         self.assertEqual(repr(stored), f"FedTest.from_cells({stored.cells})")
 
     def test_no_cells(self):
@@ -254,7 +252,7 @@ class Threads(unittest.TestCase):
             thread.start()
         for thread in threads:
             thread.join()
-        self.assertEqual(answers, [(2, "F")] * 200)
+        self.assertEqual(answers, [(2, "P")] * 200)
 
 
 if __name__ == "__main__":

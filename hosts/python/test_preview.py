@@ -6,14 +6,19 @@ import unittest
 
 import capping
 from capping import Day, Row
-from starred import ANSWER, HOUR_5, LARGEST, PARENTS, STARRED, STARRED_ANSWER, STARRED_DAY, STARRED_SCHEDULES
-from starred import CURVE_11, CURVES, FOUR_ALIKE, FOUR_ALIKE_ANSWERS, STARRED_SUPPLY, DayCase, at_relief, others
+from starred import ANSWER, CONSTRAINT, HOUR_5, LARGEST, PARENTS, STARRED, STARRED_ANSWER, STARRED_DAY, STARRED_SCHEDULES
+from starred import CURVE_11, CURVES, STARRED_SUPPLY, DayCase, others
 
 ROW_14 = Row(14, 4, "F", 5000000, 1, "M", 500000)
 ON_COST_14 = ROW_14._replace(schedule=2, kind="C", cost=220000)
 WITHOUT_COST_14 = (HOUR_5, STARRED_SUPPLY, STARRED_SCHEDULES.replace(b"14,2,C,5,100,2000,0,0,1\r\n", b""))
 RING = PARENTS + b"1,2\r\n2,3\r\n3,2\r\n"
 NOT_IN_SUPPLY = 31
+
+
+def at_relief(relief):
+    """The starred files with another relief."""
+    return (CONSTRAINT + b"5,%d,300\r\n" % relief, STARRED_SUPPLY, STARRED_SCHEDULES)
 
 
 class Accepted(DayCase):
@@ -26,10 +31,6 @@ class Accepted(DayCase):
         self.assertIn(str(row).encode(), day.study(*files, **beside).split(b"\r\n"))
         return row
 
-    def rows(self, files):
-        """The header of the answer file, and the row of each unit."""
-        return ANSWER + b"".join(f"{self.previewed(unit, files)}\r\n".encode() for unit in (11, 12, 13, 14))
-
     def test_fields(self):
         row = self.previewed(14)
         self.assertEqual(row, ROW_14)
@@ -37,16 +38,11 @@ class Accepted(DayCase):
         self.assertEqual((row.schedule, row.kind, row.cost), (1, "M", 500000))
 
     def test_each_starred_unit(self):
-        self.assertEqual(self.rows(STARRED), STARRED_ANSWER)
-
-    def test_left_at_and_above_the_need(self):
-        for relief, answer in FOUR_ALIKE_ANSWERS.items():
-            self.assertEqual(self.rows(at_relief(relief, FOUR_ALIKE)), answer)
+        rows = b"".join(f"{self.previewed(unit)}\r\n".encode() for unit in (11, 12, 13, 14))
+        self.assertEqual(ANSWER + rows, STARRED_ANSWER)
 
     def test_each_verdict(self):
         self.assertEqual(self.previewed(14, at_relief(499)), ROW_14._replace(verdict="P"))
-        self.assertEqual(self.previewed(14, at_relief(500)), ROW_14)
-        self.assertEqual(self.previewed(14, at_relief(1500)), ROW_14)
         self.assertEqual(self.previewed(14, at_relief(1501)), ROW_14._replace(verdict="U", left=0))
         self.assertEqual(self.previewed(11, at_relief(1501)), Row(11, 1, "U", 0, 2, "C", 1030000))
 

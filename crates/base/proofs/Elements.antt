@@ -9,6 +9,7 @@ use Rattle.base.proofs.Finds.{any-later, those-here, those-later}
 use Rattle.base.proofs.Tests.{either, or_fst, or_snd, false-true}
 
 pub all-mem : {A : Type 0} {P : A → Type 0} {xs : List A} {x : A} → All P xs → Memᴰ x xs → P x
+all-mem all_none m = elim m [ ]
 all-mem {P} (all_more p a) (Memᴰ.head e) = rw e p
 all-mem (all_more p a) (Memᴰ.tail m) = all-mem a m
 
@@ -37,6 +38,7 @@ module _ {A : Type 0} (p : A → Bool) where
   -- where none does, each fails
   pub none-mem : (xs : List A) (x : A) → any p xs ≡ false → Memᴰ x xs → p x ≡ false
   unfolding any
+  none-mem [] x e m = elim m [ ]
   none-mem (y ∷ xs) x e (Memᴰ.head f) = rw f (or_fst (p y) (any p xs) e)
   none-mem (y ∷ xs) x e (Memᴰ.tail m) = none-mem xs x (or_snd (p y) (any p xs) e) m
 

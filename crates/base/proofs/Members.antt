@@ -28,7 +28,7 @@ module _ {A : Type 0} where
   member-at d (x ∷ xs) zero h = Memᴰ.head refl
   member-at d (x ∷ xs) (suc i) h = Memᴰ.tail (member-at d xs i (omega arith))
 
-  pub place_of : (d : A) {xs : List A} {y : A} → Memᴰ y xs → (i : ℕ) × (i < length xs) × (get_or xs i d ≡ y)
+  pub place_of : (d : A) {y : A} {xs : List A} → Memᴰ y xs → (i : ℕ) × (i < length xs) × (get_or xs i d ≡ y)
   place_of d (Memᴰ.head e) = (0, omega arith, sym e)
   place_of d (Memᴰ.tail m) =
       let (i, h, e) = place_of d m in

@@ -84,9 +84,9 @@ module _ {A : Type 0} (odds : A → A → Bool) where
 
   -- one against one that was seen before
   against-seen :
-      (seen : List A) (k : ℕ) {xs : List A} {r e : A} → first_at_odds odds seen k xs ≡ none → Among r xs → Among e seen →
+      {r e : A} (seen : List A) (k : ℕ) {xs : List A} → first_at_odds odds seen k xs ≡ none → Among r xs → Among e seen →
       odds r e ≡ false
-  against-seen seen k {e = e} f (head {x = x} {xs = xs} is) n =
+  against-seen {e = e} seen k f (head {x = x} {xs = xs} is) n =
       rw is (none-mem (odds x) seen e (odds-none seen k x xs f).0 n)
   against-seen seen k f (later {x = x} {xs = xs} m) n =
       against-seen (x ∷ seen) (suc k) (odds-none seen k x xs f).1 m (later n)
@@ -98,7 +98,7 @@ module _ {A : Type 0} (odds : A → A → Bool) where
     before : odds e r ≡ false → Agree r e
 
   agree-from :
-      (seen : List A) (k : ℕ) {xs : List A} {r e : A} → first_at_odds odds seen k xs ≡ none → Among r xs → Among e xs → Agree r e
+      {r e : A} (seen : List A) (k : ℕ) {xs : List A} → first_at_odds odds seen k xs ≡ none → Among r xs → Among e xs → Agree r e
   agree-from seen k f (head {x = x} {xs = xs} i) (head j) = same (rw (i, j))
   agree-from seen k f (head {x = x} {xs = xs} i) (later n) =
       before (against-seen (x ∷ seen) (suc k) (odds-none seen k x xs f).1 n (head i))

@@ -97,7 +97,7 @@ module _ (d : DayView) (f : Files) (e : decision_refusal d f ≡ none) where
       let i = unit_row_lem (supply_of f.supply) r.unit m in
       let p = all-mem k.supply-permitted i.a-row in
       let positive = k.constraint-permitted.some-cutoff in
-      let g : Among r.unit (units (groups_of f)) = rw (groups-units f) m in
+      let g : Among r.unit (units (groups_of f)) = rw (groups-units d f e) m in
       record {
         unit = omega (arith, i.its-unit, p.unit);
         supplier = omega (arith, t.supplier w i, p.supplier);

@@ -1,14 +1,17 @@
 -- The test over rows, as demand 3 has it: what is left at a party's place in the amounts is the least that a removal of that
--- party leaves of the relevant rows. Assumes nothing.
+-- party leaves of the relevant rows. So the party is pivotal exactly when some removal leaves less than the need.
+-- Assumes nothing.
 use Prim.Native.Nat.{ℕ, ◌≤◌, ◌<◌}
 use mathlib.Core.Path.{◌≡◌, refl, sym, ◌∙◌}
-use mathlib.Core.Logic.{◌≢◌}
+use mathlib.Core.Logic.{◌≢◌, ◌↔◌}
+use mathlib.Core.Bool.{true}
 use mathlib.Core.List.{List}
 use native.Mathlib.Omega.{arith}
 use lib.ListN.{length, get_or, length-map}
+use borrow.Author.Tests.{ltb-true, lt-ltb}
 use Rattle.base.proofs.Members.{member-at, place_of}
 use Rattle.tables.specs.Rows.{SupplyRow}
-use Rattle.pivotal.specs.Test.{left}
+use Rattle.pivotal.specs.Test.{left, pivotal}
 use Rattle.pivotal.proofs.Removal.{Removal, leaves}
 use Rattle.pivotal.proofs.Suppliers.{gone}
 use Rattle.pivotal.proofs.Least.{least, attained}
@@ -86,3 +89,16 @@ module _ (cutoff : ℕ) (q : SupplyRow) (rows : List SupplyRow) (p : ℕ) (h : p
   attained-over-rows =
       let (x, e) = attained (amounts cutoff q rows) p in
       (gone (parties rows) x, removes x, sym (leaves-rows x) ∙ e)
+
+  -- the party is pivotal exactly when some removal of it leaves less than the need
+  pub pivotal-over-rows :
+      (need : ℕ) →
+      (pivotal (left (amounts cutoff q rows) p) need ≡ true)
+      ↔ ((taken : List ℕ) × Removes rows (get_or (parties rows) p 0) taken × (remaining cutoff q taken rows < need))
+  unfolding pivotal
+  pivotal-over-rows need = (
+    λ e.
+        let (taken, r, f) = attained-over-rows in
+        (taken, r, omega (arith, ltb-true (left (amounts cutoff q rows) p) need e)),
+    λ x. lt-ltb (left (amounts cutoff q rows) p) need (omega (arith, least-over-rows x.0 x.1, x.2)),
+  )

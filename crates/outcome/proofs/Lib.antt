@@ -6,7 +6,6 @@ pub mod DayRanges
 pub mod DayRelease
 pub mod Demand3
 pub mod ExposedRight
-pub mod Failing
 pub mod LayoutLaws
 pub mod NoCurves
 pub mod NoParents

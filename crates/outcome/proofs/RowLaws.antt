@@ -61,10 +61,10 @@ module _ (d : DayView) (f : Files) (e : decision_refusal d f ≡ none) where
   pub row-right : (u : ℕ) → Among u (units (supply_of f.supply)) → RightOf d f (study_row d f u)
   row-right =
       right (constraint_of f.constraint) (groups_of f) (scheduled_of f) d.running (sound d f e)
-      (supply_of f.supply) (files-kept d f e).supply-agrees (groups-units f)
+      (supply_of f.supply) (files-kept d f e).supply-agrees (groups-units d f e)
 
   pub row-decided :
       (r : AnswerRow) → Among r.unit (units (supply_of f.supply)) → RightOf d f r → r ≡ study_row d f r.unit
   row-decided =
       only (constraint_of f.constraint) (groups_of f) (scheduled_of f) d.running (sound d f e)
-      (supply_of f.supply) (files-kept d f e).supply-agrees (groups-units f)
+      (supply_of f.supply) (files-kept d f e).supply-agrees (groups-units d f e)

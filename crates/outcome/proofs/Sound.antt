@@ -50,11 +50,6 @@ pub some-units : {rs : List SupplyRow} → All PermittedSupply rs → All (λ (r
 some-units all_none = all_none
 some-units (all_more p a) = all_more p.some-unit (some-units a)
 
--- groups have the units of the supply file
-pub groups-units : (f : Files) → units (groups_of f) ≡ units (supply_of f.supply)
-unfolding groups_of
-groups-units f = grouped-units (parents_of f.parents) (supply_of f.supply)
-
 module _ (d : DayView) (f : Files) (e : decision_refusal d f ≡ none) where
   pub day-formed : day_formed d ≡ true
   unfolding decision_refusal decision_refusals
@@ -73,6 +68,11 @@ module _ (d : DayView) (f : Files) (e : decision_refusal d f ≡ none) where
 
   pub units-rise : RisingFrom 0 (units (supply_of f.supply))
   units-rise = units-rising (some-units files-kept.supply-permitted)
+
+  -- groups have the units of the supply file
+  pub groups-units : units (groups_of f) ≡ units (supply_of f.supply)
+  unfolding groups_of
+  groups-units = grouped-units (parents_of f.parents) (supply_of f.supply)
 
   pub groups-permitted : All PermittedSupply (groups_of f)
   unfolding groups_of
@@ -103,7 +103,7 @@ module _ (d : DayView) (f : Files) (e : decision_refusal d f ≡ none) where
         schedules = priced-permitted files-kept.curves-permitted files-kept.schedules-permitted;
         supply-agrees = groups-agree;
         schedules-agree = priced-odds points filed ∙ files-kept.schedules-agree;
-        each-scheduled = rw (groups-units f) (priced-scheduled points (units (supply_of f.supply)) filed ∙ files-kept.scheduled);
-        whole = rw (groups-units f) (priced-runs points (constraint_of f.constraint).hour (units (supply_of f.supply)) filed ∙ files-kept.whole);
-        each-cost = rw (groups-units f) cost-kept;
+        each-scheduled = rw groups-units (priced-scheduled points (units (supply_of f.supply)) filed ∙ files-kept.scheduled);
+        whole = rw groups-units (priced-runs points (constraint_of f.constraint).hour (units (supply_of f.supply)) filed ∙ files-kept.whole);
+        each-cost = rw groups-units cost-kept;
       }

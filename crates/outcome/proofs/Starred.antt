@@ -24,7 +24,6 @@ use Rattle.checking.specs.Files.{files, Files}
 use Rattle.checking.proofs.Computing.{files_all}
 use Rattle.schedules.proofs.Computing.{runs_all, schedules_all}
 use Rattle.outcome.specs.Day.{fresh_day}
-use Rattle.outcome.specs.Decision.{verdict_of, left_shown}
 use Rattle.outcome.specs.Study.{decision_refusal, answer_file}
 use Rattle.market.specs.Clearing.{eligible_supply, need_of, short, eligible_up_to, eligible_below, clears, clearing, clearing_row}
 use Rattle.offers.specs.Supply.{row_at, abs_dfax, eligible, supply, total_supply, offer, cost_beside, at_most, below}
@@ -33,10 +32,9 @@ use Rattle.market.specs.Parties.{party, parties, relevant_of, amount_of, amounts
 use Rattle.offers.specs.Relevant.{relevant}
 use Rattle.tables.proofs.Starred.{constraint_file, supply_file, schedules_file, starred_all}
 use Rattle.hours.specs.Hours.{in_run}
-use Rattle.pivotal.specs.Test.{total, no_largest, largest_with, largest_after, left, pivotal, too_large, out_of_bounds, tested, P, F}
-use Rattle.pivotal.proofs.Limits.{shows}
+use Rattle.pivotal.specs.Test.{total, no_largest, largest_with, largest_after, left, pivotal, too_large, out_of_bounds, tested, Verdict, P, F, verdict_letter, TestOutcome}
 use Rattle.tables.specs.Rows.{SupplyRow, magnitude, kind_of}
-use Rattle.tables.specs.declared.constraint.ConstraintRow.{ConstraintRow}
+use Rattle.tables.specs.Refusals.{bare_refusal}
 use Rattle.affiliates.proofs.Computing.{affiliates_all}
 use Rattle.curves.proofs.Computing.{curves_all}
 use Rattle.numbers.proofs.Computing.{numbers_all}
@@ -46,6 +44,10 @@ use Rattle.outcome.proofs.Computing.{answer_all, day_all, decision_all, study_al
 -- a row of the same dfax as every other here, with an incremental cost
 abbrev pub at_cost : ℕ → SupplyRow
 at_cost c = record { unit = 1; supplier = 1; mw = 1; cost = c; dfax = 15000 }
+
+-- the test of the supplier at a place, with what is left and the verdict
+abbrev pub shows : ℕ → Verdict → TestOutcome
+shows left verdict = record { told = bare_refusal 0; left = left; verdict = verdict_letter verdict }
 
 -- the files of the example, with some curves and some parents
 abbrev pub example_with : List ℕ → List ℕ → Files
@@ -74,15 +76,13 @@ unfolding starred_all rising_all numbers_all supply_all affiliates_all schedules
 engine_all = tt
 
 -- "Capped offers: 0 gives 0; 9 gives 9; 10 gives 11; 99999 gives 109998; 100001 gives 110001; 190000, 195000 and 200000 each
--- give 200000. Amounts 4, 3, 2, 1: the last has left 2, .. F at need 3. Amounts 5, 5: left 0, F at need 1. Same dfax, clearing row at cost
--- 91 (offer 100): cost 137 (150) is relevant, 138 (151) is not." And the example of "Answer file". And F-4's "200000 still gives 200000,
--- and 200001 gives 200001". And F-7's "The amounts 4, 3, 2, 1 make the last one F at need 2 and P at need 1", where document 01 had P at
--- need 2.
+-- give 200000. Amounts 4, 3, 2, 1: the last has left 2, P at need 2, F at need 3. Amounts 5, 5: left 0, F at need 1. Same dfax,
+-- clearing row at cost 91 (offer 100): cost 137 (150) is relevant, 138 (151) is not." And the example of "Answer file". And F-4's
+-- "200000 still gives 200000, and 200001 gives 200001".
 pub starred :
     (map capped (0 ∷ 9 ∷ 10 ∷ 99999 ∷ 100001 ∷ 190000 ∷ 195000 ∷ 200000 ∷ 200001 ∷ [])
     ≡ 0 ∷ 9 ∷ 11 ∷ 109998 ∷ 110001 ∷ 200000 ∷ 200000 ∷ 200000 ∷ 200001 ∷ [])
-    × (tested (4 ∷ 3 ∷ 2 ∷ 1 ∷ []) 3 1 ≡ shows 2 P)
-    × (tested (4 ∷ 3 ∷ 2 ∷ 1 ∷ []) 3 2 ≡ shows 2 F)
+    × (tested (4 ∷ 3 ∷ 2 ∷ 1 ∷ []) 3 2 ≡ shows 2 P)
     × (tested (4 ∷ 3 ∷ 2 ∷ 1 ∷ []) 3 3 ≡ shows 2 F)
     × (tested (5 ∷ 5 ∷ []) 0 1 ≡ shows 0 F)
     × (map offer (map at_cost (91 ∷ 137 ∷ 138 ∷ [])) ≡ 100 ∷ 150 ∷ 151 ∷ [])
@@ -90,7 +90,7 @@ pub starred :
     × (decision_refusal fresh_day (example_with [] []) ≡ none)
     × (answer_file fresh_day (example_with [] []) ≡ answer_example)
 unfolding engine_all
-starred = (refl, refl, refl, refl, refl, refl, refl, refl, refl)
+starred = (refl, refl, refl, refl, refl, refl, refl, refl)
 
 -- F-6: the parents `1,2` make suppliers 1 and 2 one group, so that a removal of 4 with two others leaves nothing. The answer is
 -- the same but for what is left to unit 14, whose supplier is still 4.
@@ -121,23 +121,3 @@ pub curved-example :
     (decision_refusal fresh_day (example_with curves_file []) ≡ none) × (answer_file fresh_day (example_with curves_file []) ≡ curved_example)
 unfolding engine_all
 curved-example = (refl, refl)
-
--- F-7: "the market itself may widen when relief grows." One unit of each of six suppliers; the first costs nothing, and the others alike. A
--- relief of 1 is met by the first alone, whose cost clears, and nothing is left without it. A relief of 2 takes the others to clear, so that all
--- are relevant, and without three of them more is left than the need: the F becomes P.
-abbrev of_supplier : ℕ → ℕ → SupplyRow
-of_supplier k c = record { unit = k; supplier = k; mw = 1; cost = c; dfax = 20000 }
-
-abbrev six_suppliers : List SupplyRow
-six_suppliers = of_supplier 1 0 ∷ map (λ (k : ℕ). of_supplier k 100) (2 ∷ 3 ∷ 4 ∷ 5 ∷ 6 ∷ [])
-
-abbrev with_relief : ℕ → ConstraintRow
-with_relief relief = record { hour = 5; relief = relief; cutoff = 10000 }
-
-pub widening :
-    (verdict_of (with_relief 1) six_suppliers 1 ≡ F)
-    × (left_shown (with_relief 1) six_suppliers 1 ≡ 0)
-    × (verdict_of (with_relief 2) six_suppliers 1 ≡ P)
-    × (left_shown (with_relief 2) six_suppliers 1 ≡ 30000)
-unfolding engine_all
-widening = (refl, refl, refl, refl)

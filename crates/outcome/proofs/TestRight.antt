@@ -1,7 +1,7 @@
 -- Demand 3 on the verdict and the amount left, for any party of some supply rows: what the test decides is right, and
 -- nothing else is. A cutoff and a need at least 1, as the table has them. Assumes nothing.
 use Prim.Native.Nat.{ℕ, ◌≤◌, ◌<◌}
-use mathlib.Core.Path.{◌≡◌, refl, sym, ◌∙◌}
+use mathlib.Core.Path.{◌≡◌, refl, ◌∙◌}
 use mathlib.Core.Logic.{◌≢◌}
 use mathlib.Core.Bool.{Bool, true, false, cond}
 use mathlib.Core.List.{List}
@@ -9,7 +9,6 @@ use native.Mathlib.Omega.{arith}
 use lib.Dec.{ltb}
 use lib.ListN.{length, get_or}
 use borrow.Author.Tests.{ltb-true, ltb-false, le-ltb}
-use Rattle.base.proofs.Tests.{false-true}
 use Rattle.tables.specs.Rows.{SupplyRow}
 use Rattle.tables.specs.declared.constraint.ConstraintRow.{ConstraintRow}
 use Rattle.market.specs.Clearing.{eligible_supply, short, need_of}
@@ -20,7 +19,6 @@ use Rattle.market.specs.Removals.{PartyOf, Removes, remaining}
 use Rattle.market.proofs.ClearingLaws.{clearing-clears}
 use Rattle.market.proofs.LeastOverRows.{party-place, least-over-rows, attained-over-rows}
 use Rattle.pivotal.specs.Test.{pivotal, Verdict, U, P, F, verdict_letter}
-use Rattle.pivotal.proofs.PivotalLaws.{is-pivotal, pivotal-left}
 use Rattle.outcome.specs.Decision.{untested, cleared, left_of, verdict_of, left_shown}
 use Rattle.outcome.specs.Right.{Clearing, RightTest}
 use Rattle.outcome.proofs.OneMarket.{remaining-same}
@@ -44,26 +42,22 @@ module _ (c : ConstraintRow) (rows : List SupplyRow) (k : ℕ) (p : PartyOf rows
 -- what the test decides, by cases
 data Decides (c : ConstraintRow) (rows : List SupplyRow) (k : ℕ) : Verdict → ℕ → Type 0 where
   short-of : eligible_supply c.cutoff rows < need_of c.relief → Decides c rows k U 0
-  failed :
-      need_of c.relief ≤ eligible_supply c.cutoff rows → pivotal (left_of c rows k) (need_of c.relief) ≡ true →
-      Decides c rows k F (left_of c rows k)
-  passed :
-      need_of c.relief ≤ eligible_supply c.cutoff rows → pivotal (left_of c rows k) (need_of c.relief) ≡ false →
-      Decides c rows k P (left_of c rows k)
+  failed : need_of c.relief ≤ eligible_supply c.cutoff rows → left_of c rows k < need_of c.relief → Decides c rows k F (left_of c rows k)
+  passed : need_of c.relief ≤ eligible_supply c.cutoff rows → need_of c.relief ≤ left_of c rows k → Decides c rows k P (left_of c rows k)
 
 decides : (c : ConstraintRow) (rows : List SupplyRow) (k : ℕ) → Decides c rows k (verdict_of c rows k) (left_shown c rows k)
-unfolding verdict_of left_shown untested short
-decides c rows k = go (ltb supply (need_of c.relief)) (pivotal (left_of c rows k) (need_of c.relief)) refl refl
+unfolding verdict_of left_shown untested short pivotal
+decides c rows k = go (ltb supply (need_of c.relief)) (ltb (left_of c rows k) (need_of c.relief)) refl refl
   where
     supply : ℕ
     supply = eligible_supply c.cutoff rows
 
     go :
-        (t u : Bool) → ltb supply (need_of c.relief) ≡ t → pivotal (left_of c rows k) (need_of c.relief) ≡ u →
+        (t u : Bool) → ltb supply (need_of c.relief) ≡ t → ltb (left_of c rows k) (need_of c.relief) ≡ u →
         Decides c rows k (cond t U (cond u F P)) (cond t 0 (left_of c rows k))
     go true u e f = short-of (ltb-true _ _ e)
-    go false true e f = failed (ltb-false _ _ e) f
-    go false false e f = passed (ltb-false _ _ e) f
+    go false true e f = failed (ltb-false _ _ e) (ltb-true _ _ f)
+    go false false e f = passed (ltb-false _ _ e) (ltb-false _ _ f)
 
 -- the row that was found to clear clears, where eligible supply is not short of the need
 module _ (c : ConstraintRow) (rows : List SupplyRow) (positive : 0 < c.cutoff) (some-need : 0 < need_of c.relief) where
@@ -104,7 +98,7 @@ module _ (c : ConstraintRow) (rows : List SupplyRow) (positive : 0 < c.cutoff) (
           some-clears = λ n. (cleared c rows, cleared-clears h);
           shows-F = λ n q d.
               let (taken, r, e) = reached-by h q d in
-              (λ _. (taken, r, omega (arith, pivotal-left _ _ l)), λ _. refl);
+              (λ _. (taken, r, omega arith), λ _. refl);
           else-P = λ n m. absurd (m refl);
           nothing_left = λ e. absurd (omega arith);
           reached = λ n q d.
@@ -116,8 +110,7 @@ module _ (c : ConstraintRow) (rows : List SupplyRow) (positive : 0 < c.cutoff) (
         record {
           shows-U = (λ e. absurd (omega arith), λ e. absurd (omega arith));
           some-clears = λ n. (cleared c rows, cleared-clears h);
-          shows-F = λ n q d.
-              (λ e. absurd (omega arith), λ x. false-true (sym l ∙ is-pivotal _ _ (omega (arith, x.2, least_by h q d x.0 x.1))));
+          shows-F = λ n q d. (λ e. absurd (omega arith), λ x. absurd (omega (arith, x.2, least_by h q d x.0 x.1)));
           else-P = λ n m. refl;
           nothing_left = λ e. absurd (omega arith);
           reached = λ n q d.
@@ -143,13 +136,13 @@ module _ (c : ConstraintRow) (rows : List SupplyRow) (positive : 0 < c.cutoff) (
         (shown, omega (arith, t.nothing_left shown))
     only (failed h b) t =
         let (taken, r, e) = left-reached c rows k p in
-        ((t.shows-F (not-U h t) (cleared c rows) (cleared-clears h)).1 (taken, r, omega (arith, pivotal-left _ _ b)), only-left h t)
+        ((t.shows-F (not-U h t) (cleared c rows) (cleared-clears h)).1 (taken, r, omega arith), only-left h t)
     only (passed h b) {v} t = (t.else-P (not-U h t) not-F, only-left h t)
       where
         not-F : v ≢ verdict_letter F
         not-F e =
-            let (taken, r, fails) = (t.shows-F (not-U h t) (cleared c rows) (cleared-clears h)).0 e in
-            false-true (sym b ∙ is-pivotal _ _ (omega (arith, left-least c rows k p taken r)))
+            let (taken, r, less) = (t.shows-F (not-U h t) (cleared c rows) (cleared-clears h)).0 e in
+            omega (arith, left-least c rows k p taken r)
 
     -- what is decided of the party is right
     pub test-right : RightTest c rows k (verdict_letter (verdict_of c rows k)) (left_shown c rows k)

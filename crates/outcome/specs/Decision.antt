@@ -46,7 +46,7 @@ module _ (c : ConstraintRow) (supply : List SupplyRow) where
   unfoldable pub left_of : ℕ → ℕ
   left_of k = left (amounts c.cutoff cleared supply) (place_of k (parties supply))
 
-  -- "every verdict is U and left is 0", or F when left is at or below the need (F-7), else P
+  -- "every verdict is U and left is 0", or "F when left is below the need, else P"
   unfoldable pub verdict_of : ℕ → Verdict
   verdict_of k = cond untested U (test_verdict (left_of k) (need_of c.relief))
 

@@ -40,16 +40,15 @@ module _ (c : ConstraintRow) (supply : List SupplyRow) where
   Clearing q = Clears c.cutoff (need_of c.relief) supply q
 
   -- "It shows U exactly when eligible supply is short of the relief. .. Where the row doesn't show U, it shows F exactly when
-  -- some removal leaves the relevant market [no more] than the relief, else P. The amount left is 0 for U; otherwise some removal
-  -- leaves exactly that amount, and every other removal leaves at least as much." Document 02, F-7: "demand 3 says no more than the
-  -- relief where it said less than the relief"; short of it is less as before. A removal takes away whole groups, and where the row
-  -- doesn't show U some row clears, so that all of this is said of one
+  -- some removal leaves the relevant market less than the relief, else P. The amount left is 0 for U; otherwise some removal
+  -- leaves exactly that amount, and every other removal leaves at least as much." A removal takes away whole groups, and where the
+  -- row doesn't show U some row clears, so that all of this is said of one
   pub record RightTest (k : ℕ) (verdict left : ℕ) : Type 0 where
     pub shows-U : (verdict ≡ verdict_letter U) ↔ (eligible_supply c.cutoff supply < need_of c.relief)
     pub some-clears : verdict ≢ verdict_letter U → (q : SupplyRow) × Clearing q
     pub shows-F :
         verdict ≢ verdict_letter U → (q : SupplyRow) → Clearing q →
-        (verdict ≡ verdict_letter F) ↔ ((taken : List ℕ) × Removes supply k taken × (remaining c.cutoff q taken supply ≤ need_of c.relief))
+        (verdict ≡ verdict_letter F) ↔ ((taken : List ℕ) × Removes supply k taken × (remaining c.cutoff q taken supply < need_of c.relief))
     pub else-P : verdict ≢ verdict_letter U → verdict ≢ verdict_letter F → verdict ≡ verdict_letter P
     pub nothing_left : verdict ≡ verdict_letter U → left ≡ 0
     pub reached :

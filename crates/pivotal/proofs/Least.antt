@@ -1,5 +1,5 @@
 -- Left is the least that a removal leaves, over amounts of any number and any place: some removal leaves just that, and
--- none leaves less. So a supplier is pivotal exactly when some removal of it leaves no more than the need. Assumes nothing.
+-- none leaves less. So a supplier is pivotal exactly when some removal of it leaves less than the need. Assumes nothing.
 use Prim.Native.Nat.{ℕ, ◌+◌, ◌-◌, ◌≤◌, ◌<◌}
 use mathlib.Core.Path.{◌≡◌, refl}
 use mathlib.Core.Logic.{◌≢◌, ⊎_elim, ◌↔◌}
@@ -7,9 +7,9 @@ use mathlib.Core.Bool.{true}
 use mathlib.Core.List.{List}
 use native.Mathlib.Omega.{arith}
 use lib.ListN.{length, get_or, set, length-set, get_or-eq_default}
+use borrow.Author.Tests.{ltb-true, lt-ltb}
 use Rattle.base.proofs.Tests.{lt-or-ge, eq-or-ne}
 use Rattle.pivotal.specs.Test.{total, left, pivotal}
-use Rattle.pivotal.proofs.PivotalLaws.{is-pivotal, pivotal-left}
 use Rattle.pivotal.proofs.Removal.{Removal, alone, with-one, with_two, leaves}
 use Rattle.pivotal.proofs.Amounts.{both, largest_two, largest-one, largest-two, largest-places, total-set, total-set-two, set-gone}
 
@@ -57,9 +57,10 @@ module _ (s : List ℕ) (p : ℕ) where
       let (q, r, h, e) = largest-places (set s p 0) in
       removal q r h e (place q) (place r)
 
-  -- a supplier is pivotal exactly when some removal of it leaves no more than the need
-  pub pivotal-exactly : (need : ℕ) → (pivotal (left s p) need ≡ true) ↔ ((x : Removal s p) × (leaves x ≤ need))
+  -- a supplier is pivotal exactly when some removal of it leaves less than the need
+  pub pivotal-exactly : (need : ℕ) → (pivotal (left s p) need ≡ true) ↔ ((x : Removal s p) × (leaves x < need))
+  unfolding pivotal
   pivotal-exactly need = (
-    λ e. (attained.0, omega (arith, attained.1, pivotal-left (left s p) need e)),
-    λ x. is-pivotal (left s p) need (omega (arith, least x.0, x.1)),
+    λ e. (attained.0, omega (arith, attained.1, ltb-true (left s p) need e)),
+    λ x. lt-ltb (left s p) need (omega (arith, least x.0, x.1)),
   )

@@ -1,11 +1,9 @@
 pub mod Amounts
 pub mod Computed
-pub mod Failing
 pub mod FeedingLaws
 pub mod Least
 pub mod Limits
 pub mod Numbered
 pub mod OneMore
-pub mod PivotalLaws
 pub mod Removal
 pub mod Suppliers

@@ -10,7 +10,7 @@ use lib.ListN.{length}
 use borrow.Author.Tests.{lt-ltb, le-ltb, ltb-false, le-leb, lt-leb}
 use Rattle.base.proofs.Tests.{or_fst, or_snd}
 use Rattle.tables.specs.Refusals.{bare_refusal}
-use Rattle.pivotal.specs.Test.{Verdict, P, F, verdict_letter, total, left, pivotal, test_verdict, most_amounts, most_amount, too_large, out_of_bounds, TestOutcome, finding, test_outcome, tested}
+use Rattle.pivotal.specs.Test.{P, F, verdict_letter, total, left, pivotal, test_verdict, most_amounts, most_amount, too_large, out_of_bounds, TestOutcome, finding, test_outcome, tested}
 use Rattle.pivotal.specs.declared.Answer.TheVariants.{Tested, Refused}
 use Rattle.pivotal.specs.declared.Finding.{Finding}
 use Rattle.pivotal.specs.declared.Finding.TheVariants.{Passes, Fails}
@@ -32,15 +32,12 @@ total-small [] e = omega arith
 total-small (a ∷ s) e =
     omega (arith, ltb-false most_amount a (or_fst (ltb most_amount a) (too_large s) e), total-small s (or_snd (ltb most_amount a) (too_large s) e))
 
--- what the test answers: refused, or so much left with a verdict, which goes by the need
+-- what the test answers: refused, or so much left and the verdict by it
 abbrev pub refused : TestOutcome
 refused = record { told = bare_refusal 11; left = 0; verdict = 0 }
 
-abbrev pub shows : ℕ → Verdict → TestOutcome
-shows l v = record { told = bare_refusal 0; left = l; verdict = verdict_letter v }
-
 abbrev pub accepted : ℕ → ℕ → TestOutcome
-accepted l need = shows l (test_verdict l need)
+accepted l need = record { told = bare_refusal 0; left = l; verdict = verdict_letter (test_verdict l need) }
 
 module _ (s : List ℕ) (p need : ℕ) where
   pub unlimited-refused : Unlimited s → tested s p need ≡ refused

@@ -1,5 +1,5 @@
 -- The pivotal test, by document 01, "Market and verdict", point 5, and refusal 11: amounts, one per supplier, the place
--- of the supplier tested, and the need. Since document 02, F-7, the need itself fails. To take a supplier away is to put 0 in its place.
+-- of the supplier tested, and the need. To take a supplier away is to put 0 in its place.
 -- Assumes nothing; that left is the least that any removal leaves is shown in `proofs/Least`.
 use Rattle.std.specs.Prelude.{ℕ, ◌+◌, ◌-◌, ◌^◌, min, max, Bool, false, cond, ◌||◌, List, [], ◌∷◌, ltb, leb, length, set}
 use Rattle.tables.specs.Refusals.{bare_refusal}
@@ -44,9 +44,9 @@ left s p =
     let largest = largest_after no_largest others in
     total others - (largest.first + largest.second)
 
--- F-7: "F now means left is at or below the need", else P
+-- "F when left is below the need, else P"
 unfoldable pub pivotal : ℕ → ℕ → Bool
-pivotal left need = leb left need
+pivotal left need = ltb left need
 
 abbrev pub test_verdict : ℕ → ℕ → Verdict
 test_verdict left need = cond (pivotal left need) F P

@@ -144,7 +144,7 @@ fn less(a: u64, b: u64) -> u64
 fn found(left: u64, need: u64) -> Finding
     ensures { finding result ≡ test_verdict left need }
 {
-    if left <= need {
+    if left < need {
         Finding::Fails
     } else {
         Finding::Passes

@@ -38,8 +38,7 @@ def tidy(file, data, room=None):
 
 
 def test(amounts, place, need):
-    """Tests the supplier at `place`, counted from 0: what is left without it and its two largest others, and F where that is at or
-    below `need`, else P."""
+    """Tests the supplier at `place`, counted from 0: what is left without it and its two largest others, and P or F."""
     place, need = lent_to_test(place), lent_need(need)
     amounts = [lent_to_test(amount) for amount in amounts]
     run = (ctypes.c_uint64 * max(len(amounts), 1))(*amounts)

@@ -29,7 +29,7 @@ says it is; a refusal calls it so.
 TEST = """
 A test reads amounts from standard input, one numeral a line and one amount for
 each supplier, and prints what is left without the supplier at PLACE and its two
-largest others, and F where that is at or below NEED, else P, as in 2,F. PLACE
+largest others, and P where that is at least NEED, else F, as in 2,P. PLACE
 counts from 0. Each amount is taken as it comes and none is kept, so totals can
 be piped in, however many; above 32 of them the test is refused.
 """
@@ -115,7 +115,7 @@ def _test(commands):
     command = commands.add_parser("test", help=does, description=does, epilog=TEST + REFUSALS, **LAYOUT)
     place = _by(numerals.any_number, "a place")
     command.add_argument("place", metavar="PLACE", type=place, help="which amount is the supplier's own, from 0")
-    command.add_argument("need", metavar="NEED", type=_by(numerals.number, "a need"), help="P where more than this is left")
+    command.add_argument("need", metavar="NEED", type=_by(numerals.number, "a need"), help="what has to be left")
 
 
 def _file_by_name(path, command):

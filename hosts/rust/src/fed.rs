@@ -17,7 +17,7 @@ pub const FED_CELLS: usize = 6;
 /// assert_eq!(fed.ask().unwrap_err().number, 11); // no amount has come for place 3 yet
 /// fed.feed(2);
 /// fed.feed(1);
-/// assert_eq!(fed.ask()?, (2, Verdict::F)); // as capping::test(&[4, 3, 2, 1], 3, 2)
+/// assert_eq!(fed.ask()?, (2, Verdict::P)); // as capping::test(&[4, 3, 2, 1], 3, 2)
 /// # Ok::<(), capping::Refusal>(())
 /// ```
 #[derive(Clone, Debug)]

@@ -6,11 +6,11 @@ use crate::Kind;
 /// What comes of a supplier's test.
 #[derive(Clone, Copy, Debug, PartialEq, Eq)]
 pub enum Verdict {
-    /// It can't be tested, since all eligible supply is below the need.
+    /// It can't be tested, since all eligible supply is below the relief.
     U,
-    /// It passes: more than the need is left without it and its two largest others.
+    /// It passes.
     P,
-    /// It fails: what is so left is at or below the need.
+    /// It fails.
     F,
 }
 

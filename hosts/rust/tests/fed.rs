@@ -66,15 +66,13 @@ fn expect_stages(place: usize, need: u64, stages: &[(u64, Answer)]) {
 
 #[test]
 fn verdicts() {
-    expect(&[4, 3, 2, 1], 3, 1, Ok((2, P)));
-    expect(&[4, 3, 2, 1], 3, 2, Ok((2, F)));
+    expect(&[4, 3, 2, 1], 3, 2, Ok((2, P)));
     expect(&[4, 3, 2, 1], 3, 3, Ok((2, F)));
     expect(&[5, 5], 0, 1, Ok((0, F)));
     expect(&[5], 0, 1, Ok((0, F)));
-    expect(&[5], 0, 0, Ok((0, F)));
-    expect(&[1, 1, 1, 1], 0, 0, Ok((1, P)));
-    expect(&[5, 5, 5, 5], 2, 4, Ok((5, P)));
-    expect(&[5, 5, 5, 5], 2, 5, Ok((5, F)));
+    expect(&[5], 0, 0, Ok((0, P)));
+    expect(&[5, 5, 5, 5], 2, 5, Ok((5, P)));
+    expect(&[5, 5, 5, 5], 2, 6, Ok((5, F)));
 }
 
 #[test]
@@ -92,8 +90,8 @@ fn the_two_largest_others_in_any_order() {
             .iter()
             .enumerate()
         {
-            expect(list, place, 0, Ok((1, P)));
-            expect(list, place, 1, Ok((1, F)));
+            expect(list, place, 1, Ok((1, P)));
+            expect(list, place, 2, Ok((1, F)));
         }
     }
     expect(&[7, 9, 5], 0, 1, Ok((0, F)));
@@ -102,18 +100,18 @@ fn the_two_largest_others_in_any_order() {
 
 #[test]
 fn the_own_amount_is_the_largest() {
-    expect(&[9, 4, 3, 2], 0, 1, Ok((2, P)));
-    expect(&[4, 9, 3, 2], 1, 1, Ok((2, P)));
-    expect(&[4, 3, 2, 9], 3, 2, Ok((2, F)));
+    expect(&[9, 4, 3, 2], 0, 2, Ok((2, P)));
+    expect(&[4, 9, 3, 2], 1, 2, Ok((2, P)));
+    expect(&[4, 3, 2, 9], 3, 3, Ok((2, F)));
 }
 
 #[test]
 fn amounts_and_their_number_at_the_limits() {
     let left = 29 * MOST_AMOUNT;
-    expect(&[MOST_AMOUNT; MOST_AMOUNTS], 31, left - 1, Ok((left, P)));
-    expect(&[MOST_AMOUNT; MOST_AMOUNTS], 0, left, Ok((left, F)));
+    expect(&[MOST_AMOUNT; MOST_AMOUNTS], 31, left, Ok((left, P)));
+    expect(&[MOST_AMOUNT; MOST_AMOUNTS], 0, left + 1, Ok((left, F)));
     expect(&[MOST_AMOUNT; 4], 1, u64::MAX, Ok((MOST_AMOUNT, F)));
-    expect(&[1, MOST_AMOUNT], 1, 0, Ok((0, F)));
+    expect(&[1, MOST_AMOUNT], 1, 0, Ok((0, P)));
 }
 
 #[test]
@@ -163,7 +161,7 @@ fn asked_in_between() {
         (4, refused),
         (3, refused),
         (2, refused),
-        (1, Ok((2, F))),
+        (1, Ok((2, P))),
         (5, Ok((5, P))),
         (TOO_LARGE, refused),
         (1, refused),
@@ -177,13 +175,13 @@ fn asked_in_between() {
         (1, Ok((4, P))),
         (9, Ok((9, P))),
     ];
-    expect_stages(1, 3, &second_of_six);
+    expect_stages(1, 4, &second_of_six);
 }
 
 /// Amounts of 1: all but the own and two others are left, until there are too many.
 #[test]
 fn asked_behind_each_of_many() {
-    let mut fed = FedTest::begin(0, 28);
+    let mut fed = FedTest::begin(0, 29);
     for count in 1..=300 {
         fed.feed(1);
         let answer = match count {
@@ -202,7 +200,7 @@ fn a_test_begun_anew() {
     fed = FedTest::begin(3, 2);
     expect_asked(&fed, out_of_limits(), "begun anew");
     fed.extend([4, 3, 2, 1]);
-    expect_asked(&fed, Ok((2, F)), "fed anew");
+    expect_asked(&fed, Ok((2, P)), "fed anew");
 }
 
 #[test]
@@ -215,7 +213,7 @@ fn fed_by_any_iterator() {
             .split(',')
             .map(|word| word.parse::<u64>().expect("a number")),
     );
-    expect_asked(&fed, Ok((2, F)), "4, 3, 2, 1");
+    expect_asked(&fed, Ok((2, P)), "4, 3, 2, 1");
     fed.extend(0..1_000_000);
     expect_asked(&fed, out_of_limits(), "a million more");
 }
@@ -226,7 +224,7 @@ fn a_clone_goes_its_own_way() {
     let mut second = first.clone();
     second.feed(TOO_LARGE);
     assert_eq!(second.ask(), out_of_limits());
-    assert_eq!(first.ask(), Ok((2, F)));
+    assert_eq!(first.ask(), Ok((2, P)));
     assert!(format!("{first:?}").starts_with("FedTest"));
 }
 
@@ -235,7 +233,7 @@ fn stored_cells_go_on() {
     let mut stored = FedTest::from_cells(*fed(&[4, 3, 2], 3, 2).cells());
     assert_eq!(stored.ask(), out_of_limits());
     stored.feed(1);
-    assert_eq!(stored.ask(), Ok((2, F)));
+    assert_eq!(stored.ask(), Ok((2, P)));
 }
 
 /// It is open what cells answer that no test was begun in, but it is an answer.
@@ -285,7 +283,7 @@ fn threads_with_a_test_each() {
         for _ in 0..4 {
             scope.spawn(|| {
                 for _ in 0..100 {
-                    assert_eq!(fed(&[4, 3, 2, 1], 3, 2).ask(), Ok((2, F)));
+                    assert_eq!(fed(&[4, 3, 2, 1], 3, 2).ask(), Ok((2, P)));
                     assert_eq!(shared.ask(), Ok((0, F)));
                 }
             });

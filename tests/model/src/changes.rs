@@ -4,7 +4,7 @@
 use std::collections::BTreeSet;
 use std::ops::Range;
 
-use crate::judge::{Judge, Offered};
+use crate::judge::Judge;
 
 /// Columns of the answer file.
 const SUPPLIER: usize = 1;
@@ -23,7 +23,6 @@ pub fn changed(answer: &[u8], judge: &Judge) -> Vec<Vec<u8>> {
     for (index, row) in rows.iter().enumerate() {
         changes.extend(fields_changed(answer, row, index, judge));
         changes.extend(choices_changed(answer, row, index, judge));
-        changes.extend(verdict_and_choice_changed(answer, row, index, judge));
     }
     changes.extend(records_changed(answer));
     changes.extend(verdicts_changed(answer, &rows));
@@ -94,24 +93,8 @@ fn elsewhere(column: usize, index: usize, judge: &Judge) -> BTreeSet<u64> {
 fn choices_changed(answer: &[u8], row: &Row, index: usize, judge: &Judge) -> Vec<Vec<u8>> {
     let at = row[SCHEDULE].start..row[COST].end;
     let choices = judge.schedules(index).into_iter();
-    choices.map(|other| with(answer, at.clone(), shown(&other).as_bytes())).collect()
-}
-
-/// A row with another verdict, with what is left as it is and the schedule that goes with that verdict: what an
-/// engine shows whose need is another.
-fn verdict_and_choice_changed(answer: &[u8], row: &Row, index: usize, judge: &Judge) -> Vec<Vec<u8>> {
-    let at = row[VERDICT].start..row[COST].end;
-    let between = &answer[row[VERDICT].end..row[SCHEDULE].start];
-    let shows = |letter: &u8| {
-        let choice = shown(&judge.schedule_with(index, *letter)?);
-        Some(with(answer, at.clone(), &[&[*letter], between, choice.as_bytes()].concat()))
-    };
-    b"PF".iter().filter_map(shows).collect()
-}
-
-/// A schedule as the last fields of a row show it.
-fn shown(schedule: &Offered) -> String {
-    format!("{},{},{}", schedule.number, schedule.kind.letter(), schedule.cost)
+    let texts = choices.map(|other| format!("{},{},{}", other.number, other.kind.letter(), other.cost));
+    texts.map(|text| with(answer, at.clone(), text.as_bytes())).collect()
 }
 
 /// Each record left out, doubled, blank or in another's place, the header among them, and the answer
@@ -218,13 +201,6 @@ mod tests {
         let judge = Judge::of(&bytes.files(), &Day::fresh()).unwrap();
         let changes = changed(b"header\r\n11,1,F,0,2,C,20700100\r\n", &judge);
         assert!(changes.iter().any(|change| change == b"header\r\n11,1,F,0,2,C,20700000\r\n"));
-    }
-
-    #[test]
-    fn another_verdict_with_its_own_choice_is_among_the_changes() {
-        let judge = Judge::of(&Bytes::starred().files(), &Day::fresh()).unwrap();
-        let changes = changed(b"header\r\n11,1,F,0,2,C,1030000\r\n", &judge);
-        assert!(changes.iter().any(|change| change == b"header\r\n11,1,P,0,1,M,1100000\r\n"));
     }
 
     #[test]

@@ -3,14 +3,17 @@
 use crate::case::{Case, Lone};
 use crate::pivotal::LARGEST_AMOUNT;
 use crate::rules::SUPPLIERS;
-use crate::tally::holding;
 
 /// Something that can be said of a list, a place and a need.
 #[derive(Clone, Copy, Debug, PartialEq, Eq, PartialOrd, Ord)]
 pub enum Feeding {
     /// What is answered, by the verdict, ..
     Answered(char),
-    /// .. against a need at the ends of its type, ..
+    /// .. against a need that is one less than what is left, as much, or one more, ..
+    NeedBelow,
+    NeedAt,
+    NeedAbove,
+    /// .. or at the ends of its type, ..
     NeedNothing,
     NeedHighest,
     /// .. of the first of several amounts, ..
@@ -73,10 +76,13 @@ const SEVERAL: usize = 3;
 const TOO_FEW: [u32; 3] = [8, 16, 32];
 
 /// What else can be said, in words.
-pub const SAID: [(&str, Feeding); 30] = [
+pub const SAID: [(&str, Feeding); 33] = [
     ("P", Feeding::Answered('P')),
     ("F", Feeding::Answered('F')),
-    ("need 0", Feeding::NeedNothing),
+    ("need one below left", Feeding::NeedBelow),
+    ("at left", Feeding::NeedAt),
+    ("one above", Feeding::NeedAbove),
+    ("0", Feeding::NeedNothing),
     ("highest", Feeding::NeedHighest),
     ("the first tested", Feeding::PlaceFirst),
     ("the last", Feeding::PlaceLast),
@@ -118,19 +124,23 @@ impl Feeding {
         let Some(Case::Fed(lone)) = Case::read(line) else { return Vec::new() };
         let words: Vec<&str> = answer.split(' ').collect();
         match words[..] {
-            ["ok", _, verdict] => of_answered(&lone, verdict),
+            ["ok", left, verdict] => of_answered(&lone, left.parse().ok(), verdict),
             _ => of_refused(&lone),
         }
     }
 }
 
-/// What a list says that is answered with a verdict.
-fn of_answered(lone: &Lone, verdict: &str) -> Vec<Feeding> {
+/// Those that hold.
+fn holding<const COUNT: usize>(said: [(bool, Feeding); COUNT]) -> Vec<Feeding> {
+    said.into_iter().filter(|(holds, _)| *holds).map(|(_, what)| what).collect()
+}
+
+/// What a list says that is answered with what is left and the verdict.
+fn of_answered(lone: &Lone, left: Option<u64>, verdict: &str) -> Vec<Feeding> {
     let (count, own) = (lone.amounts.len(), lone.place as usize);
     let mut said: Vec<Feeding> = verdict.chars().map(Feeding::Answered).collect();
+    said.extend(of_need(lone.need, left));
     said.extend(holding([
-        (lone.need == 0, Feeding::NeedNothing),
-        (lone.need == u64::MAX, Feeding::NeedHighest),
         (count >= SEVERAL && own == 0, Feeding::PlaceFirst),
         (count >= SEVERAL && own == count - 1, Feeding::PlaceLast),
     ]));
@@ -138,6 +148,18 @@ fn of_answered(lone: &Lone, verdict: &str) -> Vec<Feeding> {
     said.extend(of_largest(&lone.amounts, own));
     said.extend(of_length(count));
     said
+}
+
+/// What the need says beside what is left.
+fn of_need(need: u64, left: Option<u64>) -> Vec<Feeding> {
+    let Some(left) = left else { return Vec::new() };
+    holding([
+        (need.checked_add(1) == Some(left), Feeding::NeedBelow),
+        (need == left, Feeding::NeedAt),
+        (left.checked_add(1) == Some(need), Feeding::NeedAbove),
+        (need == 0, Feeding::NeedNothing),
+        (need == u64::MAX, Feeding::NeedHighest),
+    ])
 }
 
 /// What all amounts together say, and those at the largest.
@@ -242,12 +264,12 @@ mod tests {
 
     #[test]
     fn lists_that_are_answered() {
-        assert_eq!(said("fed 1 1 8,6"), [Answered('F'), Length(2)]);
-        let rising = [Answered('F'), Rising, LargestBehind, FirstLater];
+        assert_eq!(said("fed 1 1 8,6"), [Answered('F'), NeedAbove, Length(2)]);
+        let rising = [Answered('P'), NeedAt, Rising, LargestBehind, FirstLater];
         assert_eq!(said("fed 4 1 1,2,3,4,5"), rising);
-        let falling = [Answered('P'), PlaceLast, Falling, LargestBefore, SecondLater];
+        let falling = [Answered('P'), NeedBelow, PlaceLast, Falling, LargestBefore, SecondLater];
         assert_eq!(said("fed 4 4 5,4,3,2,1"), falling);
-        let two_others = [Answered('F'), NeedNothing, PlaceFirst, Falling, Length(3)];
+        let two_others = [Answered('P'), NeedAt, NeedNothing, PlaceFirst, Falling, Length(3)];
         assert_eq!(said("fed 0 0 9,1,1"), two_others);
         let highest = [Answered('F'), NeedHighest, PlaceFirst, OwnLargest, LargestBehind, FirstLater];
         assert_eq!(said("fed 18446744073709551615 0 9,1,2,3"), highest);
@@ -260,7 +282,7 @@ mod tests {
         let all = [Answered('F'), AllEqual, OwnHighest, OtherHighest, AllHighest, Length(3)];
         assert_eq!(said("fed 5 1 1000000000000,1000000000000,1000000000000"), all);
         assert_eq!(said("fed 5 0 1000000000000"), [Answered('F'), OwnHighest, Length(1)]);
-        assert_eq!(said("fed 4 0 7,7,5,7"), [Answered('P'), PlaceFirst]);
+        assert_eq!(said("fed 5 0 7,7,5,7"), [Answered('P'), NeedAt, PlaceFirst]);
     }
 
     #[test]

@@ -131,7 +131,8 @@ impl Judge {
         if row.verdict == b'U' {
             hold(row.left == 0, "U with something left")?;
         } else {
-            hold((row.verdict == b'F') == self.fails(unit), "F, or P, against the removals")?;
+            let fails = unit.removals.iter().any(|&left| left < self.need);
+            hold((row.verdict == b'F') == fails, "F, or P, against the removals")?;
             hold(unit.removals.contains(&row.left), "an amount that no removal leaves")?;
             hold(unit.removals.iter().all(|&left| left >= row.left), "a removal leaves less")?;
         }
@@ -141,24 +142,11 @@ impl Judge {
         hold(others.all(|other| comes_after(other, &row.schedule)), "another schedule comes before")
     }
 
-    /// "It shows F exactly when some removal leaves the relevant market" no more than "the relief, else P":
-    /// "demand 3 says no more than the relief where it said less than the relief" (document 02, F-7).
-    fn fails(&self, unit: &Unit) -> bool {
-        unit.removals.iter().any(|&left| left <= self.need)
-    }
-
     /// The schedules of the unit in a row, priced with and without a regard for curves and with the ceiling on
     /// every cost-based offer, for making up answers that show another one.
     pub fn schedules(&self, row: usize) -> Vec<Offered> {
         let Unit { schedules, schedules_by_column, schedules_with_ceiling, .. } = &self.units[row];
         [&schedules[..], schedules_by_column, schedules_with_ceiling].concat()
-    }
-
-    /// The schedule that goes with a verdict in a row, where any does, for making up answers that show both.
-    pub fn schedule_with(&self, row: usize, verdict: u8) -> Option<Offered> {
-        let eligible = self.units[row].eligible(verdict);
-        let first = |one: &&Offered| eligible.iter().all(|other| other == *one || comes_after(other, one));
-        eligible.iter().find(first).copied()
     }
 
     /// What removals of a row leave, with and without a regard for groups, for making up answers that
@@ -507,27 +495,6 @@ mod tests {
         assert_eq!(weigh(14, "14,14,F,5000000,1,M,500000"), Err("not its supplier"));
         assert_eq!(weigh(14, "14,4,F,0,1,M,500000"), Err("an amount that no removal leaves"));
         assert_eq!(weigh(11, "11,1,F,0,1,M,1100000"), Err("another schedule comes before"));
-    }
-
-    /// Four suppliers of one row each. Without supplier 1 and two of the others, which supply alike, one of these is
-    /// left to a need of 10000. At F unit 1 is exposed, and takes its C schedule, which costs less than its M.
-    #[test]
-    fn just_the_need_left_is_f_and_one_more_is_p() {
-        let weigh = |left: u64, row: &str| {
-            let supply = [1, 2, 3, 4].map(|unit| format!("{unit},{unit},{left},0,1"));
-            let market_based = [1, 2, 3, 4].map(|unit| format!("{unit},1,M,5,1,9,0,0,1"));
-            let schedules =
-                [&market_based.each_ref().map(String::as_str)[..], &["1,2,C,5,1,8,0,0,1"]].concat();
-            let bytes = Bytes::of("5,1,1", &supply.each_ref().map(String::as_str), &schedules);
-            Judge::of(&bytes.files(), &Day::fresh()).unwrap().weigh_previewed(1, row.as_bytes())
-        };
-        let against = Err("F, or P, against the removals");
-        assert_eq!(weigh(9_999, "1,1,F,9999,2,C,8"), Ok(()));
-        assert_eq!(weigh(9_999, "1,1,P,9999,1,M,9"), against);
-        assert_eq!(weigh(10_000, "1,1,F,10000,2,C,8"), Ok(()));
-        assert_eq!(weigh(10_000, "1,1,P,10000,1,M,9"), against);
-        assert_eq!(weigh(10_001, "1,1,P,10001,1,M,9"), Ok(()));
-        assert_eq!(weigh(10_001, "1,1,F,10001,2,C,8"), against);
     }
 
     /// "Answers are judged on the price so found": 2000 for unit 11 on cost, capped to 2200, and 4000 for unit

@@ -1,4 +1,4 @@
-//! The offer capping engine, written down from document 01, with requests F-1 to F-7 of document 02, and
+//! The offer capping engine, written down from document 01, with requests F-1 to F-6 of document 02, and
 //! from nothing else.
 //!
 //! It is a model: every function says one sentence of the paper, nothing is tuned, and whoever
@@ -26,7 +26,7 @@
 //! weighs any answer by the words of demand 3, [`changes`] makes answers for it to reject,
 //! [`generator`] makes cases up, and [`tally`] counts what they reached, by [`grouping`] where suppliers
 //! are affiliated, by [`pricing`] where there are curves, by [`offering`] where costs or prices are around
-//! 2,000 dollars, by [`feeding`] where the test is fed and by [`leaving`] where about the need is left.
+//! 2,000 dollars and by [`feeding`] where the test is fed.
 //!
 //! Programs: `model` answers cases, and `generate SEED COUNT` prints them. `tests/compare` holds an
 //! engine against the model on them.
@@ -56,5 +56,4 @@ pub mod grouping;
 pub mod pricing;
 pub mod offering;
 pub mod feeding;
-pub mod leaving;
 pub mod tally;

@@ -111,7 +111,7 @@ pub fn clearing_cost(eligible: &[Supply], need: u64) -> EffectiveCost {
 
 /// "The relevant market is the eligible rows whose effective cost is at most 150% of the clearing
 /// cost."
-pub fn relevant(eligible: &[Supply], need: u64) -> Vec<Supply> {
+fn relevant(eligible: &[Supply], need: u64) -> Vec<Supply> {
     let clearing = clearing_cost(eligible, need);
     let mut rows = eligible.to_vec();
     rows.retain(|row| EffectiveCost::of(row).at_most_150_percent(clearing));

@@ -9,7 +9,7 @@ use crate::generator::sheet::Sheet;
 use crate::market::{capped, clearing_cost, EffectiveCost, Market, TWO_THOUSAND_DOLLARS};
 use crate::rules::Filing;
 use crate::table::{Kind, Schedule, Supply, Table, CURVES, HIGHEST_PRICE, SCHEDULES, SUPPLY};
-use crate::tally::{holding, verdicts};
+use crate::tally::verdicts;
 
 /// Something that can be said of costs and prices.
 #[derive(Clone, Copy, Debug, PartialEq, Eq, PartialOrd, Ord)]
@@ -136,6 +136,11 @@ impl Offering {
             _ => Vec::new(),
         }
     }
+}
+
+/// Those that hold.
+fn holding<const COUNT: usize>(said: [(bool, Offering); COUNT]) -> Vec<Offering> {
+    said.into_iter().filter(|(holds, _)| *holds).map(|(_, what)| what).collect()
 }
 
 /// What 3 says, by its file and record.

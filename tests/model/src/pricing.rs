@@ -5,7 +5,6 @@ use crate::curves::{belongs, disordered, ends_low, same_curve, stray_point, POIN
 use crate::refusal::Refusal;
 use crate::rules::{run, Files, Filing};
 use crate::table::{read_constraint, read_curves, read_schedules, Point, Schedule, CURVES};
-use crate::tally::holding;
 
 /// Something that can be said of curves.
 #[derive(Clone, Copy, Debug, PartialEq, Eq, PartialOrd, Ord)]
@@ -131,6 +130,11 @@ fn without_curves(line: &[u8]) -> Option<(StudyFiles, String)> {
         *buffer = LONGEST_BUFFER;
     }
     Some((given, case.answer()))
+}
+
+/// Those that hold.
+fn holding<const COUNT: usize>(said: [(bool, Pricing); COUNT]) -> Vec<Pricing> {
+    said.into_iter().filter(|(holds, _)| *holds).map(|(_, what)| what).collect()
 }
 
 /// The curve of a row: the places of its points among all, and the points.

@@ -243,56 +243,18 @@ pub mod tests {
         assert_eq!(under(&["900,901", "4,900"]).unwrap(), starred);
     }
 
-    /// The rows of a study of units 1, 2 and so on, each of a supplier with its own number, given by what they
-    /// supply for nothing. A unit that is exposed takes its C schedule, which costs 8, and any other its M, which
-    /// costs 9.
-    fn of_suppliers(relief: u64, supplied: &[u64], parents: &[&str]) -> Vec<String> {
-        let units = || (1..).zip(supplied);
-        let supply: Vec<String> = units().map(|(unit, mw)| format!("{unit},{unit},{mw},0,1")).collect();
-        let schedules = units().flat_map(|(unit, _)| {
-            [("1,M", 9), ("2,C", 8)].map(|(schedule, price)| format!("{unit},{schedule},5,1,{price},0,0,1"))
-        });
-        let schedules: Vec<String> = schedules.collect();
-        let [supply, schedules] = [&supply, &schedules].map(|rows| rows.iter().map(String::as_str).collect());
-        let (supply, schedules): (Vec<&str>, Vec<&str>) = (supply, schedules);
-        let bytes = Bytes::of(&format!("5,{relief},1"), &supply, &schedules).with_parents(parents);
-        study(Day::fresh(), &bytes).1.unwrap().split_off(1)
-    }
-
-    /// To each of four suppliers that supply alike, one is left.
-    #[test]
-    fn just_the_need_left_is_f_and_one_more_is_p() {
-        let first = |relief: u64, each: u64| of_suppliers(relief, &[each; 4], &[]).swap_remove(0);
-        assert_eq!(first(1, 9_999), "1,1,F,9999,2,C,8");
-        assert_eq!(first(1, 10_000), "1,1,F,10000,2,C,8");
-        assert_eq!(first(1, 10_001), "1,1,P,10001,1,M,9");
-        assert_eq!(first(2, 20_000), "1,1,F,20000,2,C,8");
-        assert_eq!(first(1, 20_000), "1,1,P,20000,1,M,9");
-    }
-
-    /// Only F moves: eligible supply that is just the need is tested.
-    #[test]
-    fn supply_that_is_just_the_need_is_tested() {
-        let first = |relief: u64, supplied: &[u64]| of_suppliers(relief, supplied, &[]).swap_remove(0);
-        assert_eq!(first(4, &[10_000; 4]), "1,1,F,10000,2,C,8");
-        assert_eq!(first(4, &[10_000, 10_000, 10_000, 9_999]), "1,1,U,0,2,C,8");
-        assert_eq!(first(1, &[10_000]), "1,1,F,0,2,C,8");
-    }
-
+    /// Four suppliers of one row each, at a relief that three of them leave to the fourth.
     #[test]
     fn a_group_fails_where_its_suppliers_would_pass() {
-        let row = |verdict: &str| (1..=4).map(|unit| format!("{unit},{unit},{verdict}")).collect::<Vec<_>>();
-        assert_eq!(of_suppliers(1, &[10_001; 4], &[]), row("P,10001,1,M,9"));
-        assert_eq!(of_suppliers(1, &[10_001; 4], &["4,1"]), row("F,0,2,C,8"));
-    }
-
-    /// Two of five in one group leave just the need to everyone; without the group it would be twice as much.
-    #[test]
-    fn groups_leave_just_the_need() {
-        let row = |verdict: &str| (1..=5).map(|unit| format!("{unit},{unit},{verdict}")).collect::<Vec<_>>();
-        assert_eq!(of_suppliers(1, &[10_000; 5], &[]), row("P,20000,1,M,9"));
-        assert_eq!(of_suppliers(1, &[10_000; 5], &["5,4"]), row("F,10000,2,C,8"));
-        assert_eq!(of_suppliers(1, &[10_001; 5], &["5,4"]), row("P,10001,1,M,9"));
+        let supply = ["1,1,100,0,100", "2,2,100,0,100", "3,3,100,0,100", "4,4,100,0,100"];
+        let schedules = ["1,1,M,5,1,9,0,0,1", "2,1,M,5,1,9,0,0,1", "3,1,M,5,1,9,0,0,1", "4,1,M,5,1,9,0,0,1"];
+        let verdicts = |parents: &[&str]| {
+            let bytes = Bytes::of("5,1,1", &supply, &schedules).with_parents(parents);
+            let answer = study(Day::fresh(), &bytes).1.unwrap();
+            answer[1..].iter().map(|row| row.replace(",1,M,9", "")).collect::<Vec<_>>()
+        };
+        assert_eq!(verdicts(&[]), ["1,1,P,10000", "2,2,P,10000", "3,3,P,10000", "4,4,P,10000"]);
+        assert_eq!(verdicts(&["4,1"]), ["1,1,F,0", "2,2,F,0", "3,3,F,0", "4,4,F,0"]);
     }
 
     #[test]

@@ -1,16 +1,14 @@
 //! How often each refusal and each verdict was reached by the cases of a run, what parents, curves and costs
-//! above 2,000 dollars did, what was left beside the need, what was handed back tidy, what was previewed, and
-//! what the test was fed with.
+//! above 2,000 dollars did, what was handed back tidy, what was previewed, and what the test was fed with.
 
 use std::collections::BTreeMap;
 use std::fmt::{self, Display, Formatter};
 use std::ops::RangeInclusive;
 
-use crate::case::{answer_rows, read_hex, Case, StudyFiles, UNREADABLE};
+use crate::case::{read_hex, Case, StudyFiles, UNREADABLE};
 use crate::day::Day;
 use crate::feeding::{self, Feeding};
 use crate::grouping::Grouping;
-use crate::leaving::{Leaving, SHOWN};
 use crate::offering::{self, Offering};
 use crate::pricing::{self, Pricing};
 use crate::table::read_supply;
@@ -73,8 +71,6 @@ pub enum Reached {
     PreviewedByCurves,
     /// What a list did that the test was fed with.
     Fed(Feeding),
-    /// What was left beside the need.
-    Left(Leaving),
 }
 
 /// The verdicts of a study's rows.
@@ -327,16 +323,6 @@ impl Tally {
         writeln!(out)
     }
 
-    /// What was left beside the need.
-    fn show_left(&self, out: &mut Formatter) -> fmt::Result {
-        for (what, shown) in SHOWN {
-            let said = shown.said().into_iter();
-            let said = said.map(|(what, said)| format!("{what}: {}", self.of(Reached::Left(said))));
-            writeln!(out, "left     in {what}  {}", said.collect::<Vec<_>>().join(", "))?;
-        }
-        Ok(())
-    }
-
     /// A line for each refusal, with a count for each file that it can name.
     fn show_refusals(
         &self,
@@ -396,7 +382,6 @@ fn can_occur() -> Vec<Reached> {
     all.extend(Pricing::all().into_iter().map(Reached::Curves));
     all.extend(Offering::all().into_iter().map(Reached::Offers));
     all.extend(Feeding::all().into_iter().map(Reached::Fed));
-    all.extend(Leaving::all().into_iter().map(Reached::Left));
     all.extend(CHAINS.map(Reached::Chain));
     all.extend(MOVED.map(|(_, reached)| reached));
     all
@@ -410,14 +395,12 @@ fn placed(answer: &str) -> Option<(u64, u64)> {
     PLACES.iter().any(|(counted, _)| *counted == number).then(|| (number, count(place)))
 }
 
-/// What one case reached: by itself, by the place of its refusal, by its curves, by its costs and prices, and by
-/// what is left.
+/// What one case reached: by itself, by the place of its refusal, by its curves and by its costs and prices.
 fn reached(case: &[u8], answer: &str) -> Vec<Reached> {
     let mut all = reached_by_answer(case, answer);
     all.extend(placed(answer).map(|(number, place)| Reached::Place(number, band(place))));
     all.extend(Pricing::of(case, answer).into_iter().map(Reached::Curves));
     all.extend(Offering::of(case, answer).into_iter().map(Reached::Offers));
-    all.extend(Leaving::of(case, answer).into_iter().map(Reached::Left));
     all
 }
 
@@ -448,13 +431,14 @@ fn reached_by_parents(case: &[u8], answer: &str) -> Vec<Reached> {
     let Some(grouping) = Grouping::of(case) else { return Vec::new() };
     let file = |answer: &str| answer.split(' ').nth(1).unwrap_or_default().to_string();
     let (with, without) = (file(answer), file(&grouping.without_parents));
-    holding([
+    let found = [
         (grouping.absent_head, Reached::AbsentHead),
         (grouping.absent_group, Reached::AbsentGroup),
         (with != without, Reached::AnswerMoved),
         (verdicts(&with) != verdicts(&without), Reached::VerdictMoved),
-        (true, Reached::Chain(band(grouping.longest_chain))),
-    ])
+    ];
+    let found = found.into_iter().filter(|(reached, _)| *reached).map(|(_, what)| what);
+    found.chain([Reached::Chain(band(grouping.longest_chain))]).collect()
 }
 
 /// What a file reached that was handed back tidy, in hex.
@@ -462,40 +446,43 @@ fn reached_by_tidy(case: &[u8], hex: &str) -> Vec<Reached> {
     let Some(Case::Tidy { kind, file, buffer }) = Case::read(case) else { return Vec::new() };
     let tidy = read_hex(hex).unwrap_or_default();
     let records = tidy.iter().filter(|&&byte| byte == b'\n').count();
-    holding([
+    let found = [
         (true, Reached::Tidied(kind.number())),
         (file == tidy, Reached::AlreadyTidy(kind.number())),
         (tidy.len() as u64 == buffer, Reached::TidyFitting(kind.number())),
         (records == 1 + kind.table().rows.end(), Reached::TidyFull(kind.number())),
-    ])
+    ];
+    found.into_iter().filter(|(reached, _)| *reached).map(|(_, what)| what).collect()
 }
 
 /// What a preview reached.
 fn reached_by_preview(case: &[u8], answer: &str) -> Vec<Reached> {
     let Some(Case::Preview { day, files, unit }) = Case::read(case) else { return Vec::new() };
     let words: Vec<&str> = answer.split([' ', ',']).collect();
-    match words[..] {
+    let (what, found) = match words[..] {
         ["no", number, file, _] => {
             let number = count(number);
-            holding([
-                (true, Reached::NotPreviewed(number, count(file))),
+            let found = vec![
                 (number != ABSENT && !supplies(&files, unit), Reached::BeforeThirtyOne(number)),
                 (number == ABSENT && day.kind_of(unit).is_some(), Reached::AbsentRunning),
                 (number == ABSENT && !UNITS.contains(&unit), Reached::AbsentBeyond),
-            ])
+            ];
+            (Reached::NotPreviewed(number, count(file)), found)
         }
         ["ok", _, _, verdict, ..] => {
             let other = |day, files| Case::Preview { day, files, unit }.answer();
             let without = |place| other(day.clone(), files.clone().without(place));
-            holding([
-                (true, Reached::Previewed(verdict.chars().next().unwrap_or_default())),
+            let found = vec![
                 (other(Day::fresh(), files.clone()) != answer, Reached::PreviewedByDay),
                 (without(StudyFiles::PARENTS) != answer, Reached::PreviewedByParents),
                 (without(StudyFiles::CURVES) != answer, Reached::PreviewedByCurves),
-            ])
+            ];
+            (Reached::Previewed(verdict.chars().next().unwrap_or_default()), found)
         }
-        _ => Vec::new(),
-    }
+        _ => return Vec::new(),
+    };
+    let found = found.into_iter().filter(|(reached, _)| *reached).map(|(_, what)| what);
+    [what].into_iter().chain(found).collect()
 }
 
 /// Whether the supply file can be read and has the unit.
@@ -509,12 +496,9 @@ fn count(word: &str) -> u64 {
 
 /// The verdicts of the rows of an answer file in hex.
 pub fn verdicts(hex: &str) -> Vec<char> {
-    answer_rows(hex).iter().filter_map(|row| row.split(',').nth(2)?.chars().next()).collect()
-}
-
-/// Those that hold.
-pub fn holding<What, const COUNT: usize>(said: [(bool, What); COUNT]) -> Vec<What> {
-    said.into_iter().filter(|(holds, _)| *holds).map(|(_, what)| what).collect()
+    let answer = read_hex(hex).unwrap_or_default();
+    let text = String::from_utf8_lossy(&answer);
+    text.lines().skip(1).filter_map(|row| row.split(',').nth(2)?.chars().next()).collect()
 }
 
 impl Display for Tally {
@@ -539,7 +523,6 @@ impl Display for Tally {
         self.show_tidy(out)?;
         self.show_previews(out)?;
         self.show_fed(out)?;
-        self.show_left(out)?;
         write!(out, "unreadable: {}", self.of(Reached::Unreadable))
     }
 }
@@ -549,12 +532,11 @@ mod tests {
     use super::*;
     use crate::case::{self, Hex};
     use crate::generator;
-    use crate::leaving::{Beside, Shown};
     use crate::study::tests::Bytes;
 
     #[test]
     fn answers_count_by_what_they_say() {
-        assert_eq!(reached(b"test 9 0 1", "ok 0 F"), [Reached::Test('F')]);
+        assert_eq!(reached(b"test 1 0 1", "ok 0 F"), [Reached::Test('F')]);
         assert_eq!(reached(b"release - 1", "no 23 0 0"), [Reached::Refusal(23, 0)]);
         assert_eq!(reached(b"check . . .", "2"), [Reached::Check(2)]);
         assert_eq!(reached(b"", UNREADABLE), [Reached::Unreadable]);
@@ -617,8 +599,6 @@ mod tests {
         let reached = |line: &str| reached(line.as_bytes(), &case::answer(line.as_bytes()));
         assert_eq!(reached("fed 1 2 1,1"), [Reached::Fed(Feeding::PlaceAtLength)]);
         assert_eq!(reached("fed 7 1 5,2,5,1"), [Reached::Fed(Feeding::Answered('F'))]);
-        let at_the_need = Reached::Left(Leaving::Left(Shown::Fed, Beside::At, 'F'));
-        assert_eq!(reached("fed 1 1 5,2,5,1"), [Reached::Fed(Feeding::Answered('F')), at_the_need]);
         assert_eq!(reached("fed 1 0"), [Reached::Unreadable]);
     }
 

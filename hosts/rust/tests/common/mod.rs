@@ -15,21 +15,6 @@ pub const STARRED_ANSWER: &str = "unit,supplier,verdict,left,schedule,kind,cost\
 pub const AFFILIATED_ANSWER: &str = "unit,supplier,verdict,left,schedule,kind,cost\r\n\
     11,1,F,0,2,C,1030000\r\n12,2,F,0,1,M,330000\r\n13,3,F,0,1,C,890000\r\n14,4,F,0,1,M,500000\r\n";
 
-/// Reliefs, with the answers to [`Files::four_alike`]: what is left for each supplier is above the need, and then just the need, so
-/// that all units are exposed.
-pub const FOUR_ALIKE_ANSWERS: [(u64, &str); 2] = [
-    (
-        499,
-        "unit,supplier,verdict,left,schedule,kind,cost\r\n11,1,P,5000000,1,M,1100000\r\n12,2,P,5000000,1,M,330000\r\n\
-            13,3,P,5000000,1,C,890000\r\n14,4,P,5000000,1,M,500000\r\n",
-    ),
-    (
-        500,
-        "unit,supplier,verdict,left,schedule,kind,cost\r\n11,1,F,5000000,2,C,1030000\r\n12,2,F,5000000,1,M,330000\r\n\
-            13,3,F,5000000,1,C,890000\r\n14,4,F,5000000,2,C,220000\r\n",
-    ),
-];
-
 /// Points of a curve of unit 11's C schedule, and the starred answer with it: the first point at or above ecomin, 100, is the
 /// second, so the price is 2000 and capped 2200, and the cost 100 * 2200 + 10 * 50000 + 10 * 20000.
 pub const CURVE_11: &str = "11,2,5,50,1000\r\n11,2,5,100,2000\r\n";
@@ -78,24 +63,6 @@ impl Files {
             curves: String::new(),
             parents: String::new(),
         }
-    }
-
-    /// The starred files with another relief.
-    pub fn starred_at(relief: u64) -> Files {
-        Files {
-            constraint: format!("{CONSTRAINT}5,{relief},300\r\n"),
-            ..Files::starred()
-        }
-    }
-
-    /// The starred files at a relief, with unit 14's supply like the others': each of four suppliers then has 5000000 that is
-    /// relevant, and as much is left for each.
-    pub fn four_alike(relief: u64) -> Files {
-        let files = Files::starred_at(relief);
-        let supply = files
-            .supply
-            .replace("14,4,2000,2000,200", "14,4,1000,3000,5000");
-        Files { supply, ..files }
     }
 
     /// The starred files with these rows of parents.

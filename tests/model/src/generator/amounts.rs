@@ -116,20 +116,16 @@ fn enlarge(amounts: &mut [u64], own: Option<usize>, random: &mut Random) {
 /// A need at or beside what the test leaves, or any other.
 fn make_need(amounts: &[u64], place: u64, random: &mut Random) -> u64 {
     let others = amounts.iter().enumerate().filter(|(index, _)| *index as u64 != place);
-    let left = left_beside(others.map(|(_, &amount)| amount).collect());
+    let mut others: Vec<u64> = others.map(|(_, &amount)| amount).collect();
+    others.sort();
+    let left: u64 = others.iter().rev().skip(2).fold(0, |sum, &amount| sum.saturating_add(amount));
     match random.between(0, 9) {
         0 => 0,
         1 => u64::MAX,
-        2..=4 => left,
-        5..=7 => left.saturating_sub(1),
-        8 => left.saturating_add(1),
-        _ if random.percent(50) => random.any(),
+        2 => random.any(),
+        3..=5 => left,
+        6..=7 => left.saturating_add(1),
+        8 => left.saturating_sub(1),
         _ => random.scaled(LARGEST_AMOUNT),
     }
-}
-
-/// What is left of the others without their two largest, as far as it fits.
-pub fn left_beside(mut others: Vec<u64>) -> u64 {
-    others.sort();
-    others.iter().rev().skip(2).fold(0, |sum, &amount| sum.saturating_add(amount))
 }

@@ -12,7 +12,6 @@ mod parents;
 mod preview;
 mod prices;
 pub mod random;
-mod relief;
 pub mod sheet;
 mod spoilt_curves;
 mod supply;

@@ -5,8 +5,7 @@ use super::draft::{different, Draft};
 use super::faults::make_study_faults;
 use super::make_files;
 use super::random::Random;
-use crate::case::{Case, StudyFiles};
-use crate::market::need;
+use crate::case::Case;
 
 /// The faults of a preview: the refusals of a study but 10, and those of the day more often than there,
 /// since they come right before 31.
@@ -24,20 +23,8 @@ const WRAPS: [u64; 4] = [1 << 8, 1 << 16, 1 << 32, u64::MAX << 16];
 pub fn make_preview(random: &mut Random) -> Case {
     let faults = make_study_faults(&NUMBERS, random);
     let (draft, files) = make_files(&faults, random);
-    let units = units_at_the_need(&draft, &files);
-    let unit = match units[..] {
-        [_, ..] if random.percent(50) => random.pick(&units),
-        _ => make_unit(&draft, random),
-    };
+    let unit = make_unit(&draft, random);
     Case::Preview { day: draft.day, files, unit }
-}
-
-/// The units that have just the need left, or one more or less, where the files are accepted.
-fn units_at_the_need(draft: &Draft, files: &StudyFiles) -> Vec<u64> {
-    let rows = draft.day.decide(&files.lend()).map_or(Vec::new(), |decision| decision.rows);
-    let need = need(&draft.constraint);
-    let at_the_need = rows.into_iter().filter(|row| row.tested.left.abs_diff(need) <= 1);
-    at_the_need.map(|row| row.unit).collect()
 }
 
 /// A unit: most often one of the supply file, the first and the last among them; else one that only the

@@ -1,11 +1,11 @@
-//! Supply rows and cutoff of a draft, with effective costs that tie or nearly do.
+//! Supply rows, cutoff and relief of a draft, with effective costs that tie or nearly do, and a need
+//! at the edges of what is supplied, cleared and left by groups.
 
 use super::draft::different;
 use super::parents::{grouped, make_parents};
 use super::prices::{make_dear, uncapped, EDGES, HIGHEST, HIGHEST_WITH_HALF_MORE};
 use super::random::Random;
-use super::relief::{make_level, make_relief, supply_whole_reliefs};
-use crate::market::{capped, TWO_THOUSAND_DOLLARS};
+use crate::market::{capped, effective_supply, supply_of, TWO_THOUSAND_DOLLARS};
 use crate::table::{Constraint, Parent, Supply};
 
 /// How large a draft is.
@@ -82,21 +82,16 @@ pub fn make_market(size: Size, hour: u64, random: &mut Random) -> (Constraint, V
         Style::Extreme,
     ]);
     let mut rows = make_rows(size, style, random);
-    let whole = random.percent(33);
-    if whole {
-        supply_whole_reliefs(&mut rows);
-    }
     let parents = make_parents(&different(rows.iter().map(|row| row.supplier)), random);
-    if size.units < 64 && !rows.is_empty() {
-        if let Some(relief) = make_level(&mut rows, &parents, random) {
-            return (Constraint { hour, relief, cutoff: 1 }, rows, parents);
-        }
+    let room = size.units < 64 && !rows.is_empty();
+    if room && random.once_in(12) {
+        let relief = balance(&mut rows, random);
+        return (Constraint { hour, relief, cutoff: 1 }, rows, parents);
     }
     let cutoff = make_cutoff(&rows, random);
     let mut eligible = grouped(&rows, &parents);
     eligible.retain(|row| row.dfax.unsigned_abs() >= cutoff);
-    let by_left = whole || matches!(style, Style::Flat);
-    let relief = make_relief(&eligible, by_left, random);
+    let relief = make_relief(&eligible, style, random);
     if random.once_in(40) {
         rows.iter_mut().for_each(|row| row.mw = 100_000);
     }
@@ -255,4 +250,66 @@ fn make_cutoff(rows: &[Supply], random: &mut Random) -> u64 {
         _ => random.between(1, 10_000),
     };
     cutoff.clamp(1, 10_000)
+}
+
+/// A relief somewhere in what the eligible rows supply, or just beyond. The rows have the head in the
+/// place of the supplier.
+fn make_relief(eligible: &[Supply], style: Style, random: &mut Random) -> u64 {
+    let supply = supply_of(eligible);
+    let need = match (random.between(0, 19), style) {
+        (0..=10, Style::Flat) => need_by_left(eligible, random),
+        (0..=8, _) => supply * random.pick(&[1, 2, 3, 5, 8, 12, 18, 25]) / 100,
+        (9..=12, _) => need_by_cost(eligible, random),
+        (13..=14, _) => supply,
+        (15..=16, _) => need_by_left(eligible, random),
+        (17, _) => random.between(0, supply + supply / 5),
+        (18, _) => 10_000,
+        _ => supply * 2,
+    };
+    let rounded = need / 10_000 + random.pick(&[0, 0, 0, 1]);
+    rounded.clamp(1, 1_000_000)
+}
+
+/// What the rows up to some effective cost supply.
+fn need_by_cost(eligible: &[Supply], random: &mut Random) -> u64 {
+    let mut rows = eligible.to_vec();
+    let cost = |row: &Supply, other: &Supply| capped(row.cost) * other.dfax.unsigned_abs();
+    rows.sort_by(|a, b| cost(a, b).cmp(&cost(b, a)));
+    supply_of(&rows[..random.index(rows.len() + 1)])
+}
+
+/// What is left of all the rows without some group and its two largest others.
+fn need_by_left(eligible: &[Supply], random: &mut Random) -> u64 {
+    let groups = different(eligible.iter().map(|row| row.supplier));
+    let amount = |group: u64| supply_of(eligible.iter().filter(|row| row.supplier == group));
+    let mut amounts: Vec<u64> = groups.into_iter().map(amount).collect();
+    random.shuffle(&mut amounts);
+    amounts.pop();
+    amounts.sort();
+    amounts.iter().rev().skip(2).sum()
+}
+
+/// One more unit, of dfax 1 or -1, that brings the eligible supply to the need or one short of it where
+/// the cutoff is 1. The relief.
+fn balance(rows: &mut Vec<Supply>, random: &mut Random) -> u64 {
+    let supply: u64 = rows.iter().map(effective_supply).sum();
+    let relief = (supply / 10_000 + 1).clamp(1, 1_000_000);
+    let gap = (relief * 10_000).saturating_sub(supply).clamp(2, 100_000);
+    let unit = loop {
+        let unit = random.between(1, 9_999);
+        if rows.iter().all(|row| row.unit != unit) {
+            break unit;
+        }
+    };
+    let beside = random.pick(rows);
+    let balance = Supply {
+        unit,
+        supplier: beside.supplier,
+        mw: random.pick(&[gap, gap - 1]),
+        cost: random.pick(&[0, beside.cost, HIGHEST]),
+        dfax: random.pick(&[1, -1]),
+    };
+    rows.truncate(255);
+    rows.push(balance);
+    relief
 }

@@ -12,7 +12,7 @@ use Rattle.cells.specs.promises.Views.{answer_rows, answer_at}
 use Rattle.outcome.specs.Answer.{CRLF, line}
 use Rattle.answer.specs.promises.Parts.{number_field, letter_field, last_field, ids_part, test_part, schedule_part}
 use Rattle.tables.specs.declared.answer.AnswerRow.{AnswerRow}
-use Rattle.csv.specs.Bytes.{COMMA}
+use Rattle.csv_text.specs.Bytes.{COMMA}
 
 regroup :
     (a b c d e f g : List ℕ) → ((a ++ b) ++ (c ++ d)) ++ ((e ++ f) ++ g) ≡ a ++ (b ++ (c ++ (d ++ (e ++ (f ++ g)))))

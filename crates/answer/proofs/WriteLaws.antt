@@ -8,7 +8,7 @@ use Rattle.base.specs.promises.Writing.{Wrote}
 use Rattle.base.proofs.Writers.{wrote_none, wrote-byte}
 use Rattle.numeral.specs.Numeral.{digits}
 use Rattle.answer.specs.promises.Parts.{number_field, letter_field, last_field}
-use Rattle.csv.specs.Bytes.{COMMA}
+use Rattle.csv_text.specs.Bytes.{COMMA}
 use Rattle.answer.proofs.LineLaws.{number-length, last-length}
 
 -- the parts of a row, from numbers as the code has them

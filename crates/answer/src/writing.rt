@@ -33,7 +33,10 @@ fn write_header(out: &mut [u8]) -> usize
     requires { length answer_header ≤ length out.old }
     ensures { Wrote answer_header result out.old out.new }
 {
-    bytes::copy(b"unit,supplier,verdict,left,schedule,kind,cost\r\n", out)
+    let header = b"unit,supplier,verdict,left,schedule,kind,cost\r\n";
+    let length = header.len();
+    out[..length].copy_from_slice(header);
+    length
 }
 
 fn write_rows(cells: &[u64], n: usize, out: &mut [u8]) -> usize

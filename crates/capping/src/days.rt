@@ -35,7 +35,7 @@ const NO_HOUR: u64 = 0;
 const SOME_HOUR: u64 = 1;
 
 // The cells of one place.
-#[derive(Drop)]
+#[derive(Clone, Copy)]
 struct Place {
     unit: u64,
     kind: u64,

@@ -1,6 +1,8 @@
 // What host programs in C, Rust and Python link: the check of three files, the study of a fresh day, a
 // day that is studied, previewed and released from call after call, the test of one supplier, also fed one
 // amount a call, and one file tidied.
+#![tactic(auto)]
+
 mod calls;
 mod check;
 mod day_calls;

@@ -1,5 +1,7 @@
 // Rows that stand in a run of cells, one behind the other: the columns of each kind of row by name, and
 // the cell of a row in a column. And how many rows and units a study has, by value.
+#![tactic(auto)]
+
 pub mod answer;
 pub mod parent;
 pub mod point;

@@ -1,6 +1,6 @@
 // How many rows supply and schedules have, and how many units supply has.
 
-#[derive(Drop)]
+#[derive(Clone, Copy)]
 pub struct Sizes {
     pub supply: usize,
     pub schedules: usize,

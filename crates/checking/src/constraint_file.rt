@@ -14,7 +14,7 @@ const RELIEF: usize = 1;
 
 const CUTOFF: usize = 2;
 
-#[derive(Drop)]
+#[derive(Clone, Copy)]
 pub enum ConstraintCheck {
     Row(ConstraintRow),
     Refused(Refusal),

@@ -1,5 +1,7 @@
 // The files of a study: each is read alone as far as refusal 6, constraint and supply together, and
 // schedules beside them; parents turn supply into groups. Assumes nothing of the bytes.
+#![tactic(auto)]
+
 mod answers;
 mod constraint_file;
 mod curves_file;

@@ -10,14 +10,14 @@ use crate::supply_file::{SupplyCheck, read_supply};
 use tables::{ConstraintRow, Refusal};
 
 // The constraint's row, and how many rows and units supply has.
-#[derive(Drop)]
+#[derive(Clone, Copy)]
 pub struct Market {
     pub constraint: ConstraintRow,
     pub rows: usize,
     pub units: usize,
 }
 
-#[derive(Drop)]
+#[derive(Clone, Copy)]
 pub enum MarketCheck {
     Passed(Market),
     Refused(Refusal),

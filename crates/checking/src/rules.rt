@@ -22,7 +22,7 @@ use crate::refusals::{LACKING, NOT_IN_SUPPLY, UNSCHEDULED};
 use schedules::{lacking, not_in_supply, unscheduled};
 use tables::Reading;
 
-#[derive(Drop)]
+#[derive(Clone, Copy)]
 pub enum Rule {
     NotInSupply,
     Unscheduled,

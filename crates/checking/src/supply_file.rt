@@ -14,7 +14,7 @@ use tables::{File, Reading, Refusal};
 const SUPPLIERS: usize = 33;
 
 // What reading supply gives: how many rows and how many units it has, or why it is refused.
-#[derive(Drop)]
+#[derive(Clone, Copy)]
 pub enum SupplyCheck {
     Rows(usize, usize),
     Refused(Refusal),

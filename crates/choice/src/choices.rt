@@ -5,7 +5,7 @@ ghost use Rattle.choice.specs.Choosing.{better as choosing_better, kept as choos
 use tables::Kind;
 
 // A schedule of a unit, with what it costs in tenths of a cent.
-#[derive(Drop)]
+#[derive(Clone, Copy)]
 pub struct Choice {
     pub schedule: u64,
     pub kind: Kind,
@@ -13,7 +13,7 @@ pub struct Choice {
 }
 
 // The schedule chosen, or nothing where none is eligible.
-#[derive(Drop)]
+#[derive(Clone, Copy)]
 pub enum Chosen {
     Schedule(Choice),
     Nothing,

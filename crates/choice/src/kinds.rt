@@ -6,7 +6,7 @@ ghost use Rattle.choice.specs.promises.Kinds.{kind_in};
 use tables::Kind;
 
 // How the day has a unit: not running, or running on a schedule of a kind.
-#[derive(Drop)]
+#[derive(Clone, Copy)]
 pub enum DayKind {
     NotRunning,
     OnM,
@@ -14,7 +14,7 @@ pub enum DayKind {
 }
 
 // Schedules by their kind.
-#[derive(Drop)]
+#[derive(Clone, Copy)]
 pub enum Kinds {
     All,
     OnlyM,

@@ -1,6 +1,8 @@
 // Offer curves: each point's schedule row, refusals 32, 33 and 34 over points, and schedule rows at the
 // prices of their curves. Points and rows stand in runs of cells, which their readers know to be within
 // the table's ranges.
+#![tactic(auto)]
+
 mod ending;
 mod keys;
 mod ordering;

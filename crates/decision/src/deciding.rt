@@ -22,7 +22,7 @@ use running::Units;
 use tables::{ConstraintRow, letter_of};
 
 // Every unit is decided, or a unit that runs on cost has no C schedule.
-#[derive(Drop)]
+#[derive(Clone, Copy)]
 pub enum Decided {
     All,
     NoCostSchedule(u64),

@@ -7,7 +7,7 @@ use market::{add_amounts, clearing_row, eligible_supply, list_parties, need_of};
 use tables::ConstraintRow;
 
 // Short of the need; or the place of the row that clears, and how many parties there are.
-#[derive(Drop)]
+#[derive(Clone, Copy)]
 pub enum Standing {
     Short,
     Cleared(usize, usize),

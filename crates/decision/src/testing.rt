@@ -30,7 +30,7 @@ const P: u64 = 0x50;
 
 const F: u64 = 0x46;
 
-#[derive(Drop)]
+#[derive(Clone, Copy)]
 pub struct UnitTest {
     pub unit: u64,
     pub supplier: u64,
@@ -40,7 +40,7 @@ pub struct UnitTest {
 }
 
 // The tests of the units, in the order of the units, from the start.
-#[derive(Drop)]
+#[derive(Clone, Copy)]
 pub struct Tests {
     pub tests: [UnitTest; UNITS],
 }

@@ -12,7 +12,7 @@ use offers::{is_eligible, is_relevant};
 
 // The rows that expose a unit: the eligible ones, or the relevant ones where the row at a place
 // clears.
-#[derive(Drop)]
+#[derive(Clone, Copy)]
 pub enum Wanted {
     Eligible,
     Relevant(usize),

@@ -7,13 +7,13 @@ ghost use Rattle.engine.specs.View.{view_of};
 use running::Units;
 
 // The hour of the last accepted study, none in a fresh day.
-#[derive(Drop)]
+#[derive(Clone, Copy)]
 pub enum LastHour {
     Fresh,
     At(u64),
 }
 
-#[derive(Drop)]
+#[derive(Clone, Copy)]
 pub struct Day {
     pub hour: LastHour,
     pub units: Units,

@@ -30,7 +30,7 @@ use decision::{Decided, list_suppliers, name_suppliers};
 use tables::{ConstraintRow, File, Reading, Refusal};
 
 // The hour of the study and how many rows were laid down, or why it is refused.
-#[derive(Drop)]
+#[derive(Clone, Copy)]
 pub enum Deciding {
     Rows(u64, usize),
     Refused(Refusal),

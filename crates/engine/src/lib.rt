@@ -1,4 +1,6 @@
 // The engine: the day by value, with what is done to it.
+#![tactic(auto)]
+
 mod asking;
 mod day;
 mod deciding;

@@ -15,14 +15,14 @@ use cells::answer::{UNIT, cell, row_at};
 use tables::{AnswerRow, Refusal};
 
 // What a preview answers: the unit's row, or why it is refused.
-#[derive(Drop)]
+#[derive(Clone, Copy)]
 pub enum Preview {
     Row(AnswerRow),
     Refused(Refusal),
 }
 
 // The day, as it was given, with the answer.
-#[derive(Drop)]
+#[derive(Clone, Copy)]
 pub struct Previewed {
     pub day: Day,
     pub answer: Preview,

@@ -9,14 +9,14 @@ use crate::refusals::{ILL_FORMED, NOT_RUNNING};
 use tables::Refusal;
 
 // What a release answers.
-#[derive(Drop)]
+#[derive(Clone, Copy)]
 pub enum Release {
     Done,
     Refused(Refusal),
 }
 
 // The day after a release, with the answer.
-#[derive(Drop)]
+#[derive(Clone, Copy)]
 pub struct Released {
     pub day: Day,
     pub answer: Release,

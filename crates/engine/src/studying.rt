@@ -17,14 +17,14 @@ use running::Units;
 use tables::Refusal;
 
 // What a study answers: how many bytes of the buffer are the answer file, or why it is refused.
-#[derive(Drop)]
+#[derive(Clone, Copy)]
 pub enum Study {
     Written(usize),
     Refused(Refusal),
 }
 
 // The day after a study, with the answer.
-#[derive(Drop)]
+#[derive(Clone, Copy)]
 pub struct Studied {
     pub day: Day,
     pub answer: Study,

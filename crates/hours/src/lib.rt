@@ -1,5 +1,7 @@
 // The hours of a schedule's run, which ends with the day at the latest. Assumes a study hour of the day
 // and a run no longer than one.
+#![tactic(auto)]
+
 ghost use Rattle.std.specs.Prelude.{◌≡◌, ◌+◌, ◌≤◌};
 ghost use Rattle.hours.specs.Hours.{last_hour, run_end, in_run};
 

@@ -4,6 +4,8 @@
 // last row that has it; 0 stands for none. A run of links has those by unit, and behind them those by
 // unit and schedule. Different units or schedules may share a key: what is searched for tells them
 // apart. Assumes nothing of the numbers.
+#![tactic(auto)]
+
 ghost use Rattle.std.specs.Prelude.{◌≡◌, ◌+◌, ◌≤◌, ◌<◌, ◌++◌, length, get_or, take, drop};
 ghost use Rattle.links.specs.promises.Links.{most_linked, row_linked, unit_keys, schedule_keys, by_unit, by_schedule, unit_links, links_length};
 

@@ -1,5 +1,7 @@
 // The longest answer: how many bytes a buffer must have so that no study finds it too short. Assumes
 // nothing.
+#![tactic(auto)]
+
 ghost use Rattle.std.specs.Prelude.{◌≡◌};
 ghost use Rattle.longest.specs.Longest.{longest};
 

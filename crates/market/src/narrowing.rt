@@ -17,7 +17,7 @@ const ROWS: usize = 256;
 const STRIDE: usize = 157;
 
 // Each bound is the place of a row whose cost it is; past the rows there is none.
-#[derive(Drop)]
+#[derive(Clone, Copy)]
 pub struct Bounds {
     pub low: usize,
     pub high: usize,

@@ -14,7 +14,7 @@ use offers::{cost_beside, effective_supply, is_eligible, is_relevant};
 
 // The eligible rows; those at or below the cost of the row at a place; and the relevant ones of a
 // party, where the row at a place clears.
-#[derive(Drop)]
+#[derive(Clone, Copy)]
 pub enum Part {
     Eligible,
     UpTo(usize),

@@ -1,5 +1,7 @@
 // Numerals: digits with no sign and no leading zero, except `0` itself. A numeral may be of any
 // length; one above the maximum is refused before anything could wrap.
+#![tactic(auto)]
+
 ghost use Rattle.std.specs.Prelude.{◌≤◌, ◌≡◌, length};
 ghost use Rattle.base.specs.promises.Writing.{Wrote};
 ghost use Rattle.numeral.specs.promises.Answers.{numeral_answer};
@@ -11,7 +13,7 @@ const ZERO: u8 = b'0';
 
 const NINE: u8 = b'9';
 
-#[derive(Drop)]
+#[derive(Clone, Copy)]
 pub enum Answer {
     Number(u64),
     Refused,

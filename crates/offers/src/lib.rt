@@ -1,6 +1,8 @@
 // What one supply row offers to a constraint: its capped offer, its effective supply and cost, and
 // whether it is eligible and relevant. Rows are lent as cells, which their readers know to be within
 // the table's ranges.
+#![tactic(auto)]
+
 mod offer;
 mod relevant;
 mod rows;

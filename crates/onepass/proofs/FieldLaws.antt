@@ -6,8 +6,8 @@ use Rattle.base.specs.Text.{same}
 use Rattle.base.proofs.Lists.{drop-next}
 use Rattle.base.proofs.Tests.{false-true}
 use Rattle.base.specs.promises.Counting.{one}
-use Rattle.csv.specs.Grammar.{TEXTDATA, above-comma, NonEscaped, Opened, Escaped, Field}
-use Rattle.csv.specs.Bytes.{DQUOTE}
+use Rattle.csv_text.specs.Grammar.{TEXTDATA, above-comma, NonEscaped, Opened, Escaped, Field}
+use Rattle.csv_text.specs.Bytes.{DQUOTE}
 use Rattle.numeral.specs.Numeral.{ZERO, with_digit, number, leading_zero, digits_from, within}
 use Rattle.numeral.proofs.Reading.{digits-read, number-from, none-some}
 use Rattle.numeral.specs.Grammar.{Digit, Digits}

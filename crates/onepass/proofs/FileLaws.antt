@@ -3,9 +3,9 @@
 use Rattle.std.proofs.Common.{◌≡◌, ℕ, ◌-◌, ◌<◌, ◌≤◌, List, ◌∷◌, ◌++◌, length, take, drop, sym, refl, ap, ◌∙◌, arith, drop_at}
 use mathlib.Core.Option.{none}
 use Rattle.base.proofs.Lists.{rest-lent}
-use Rattle.csv.specs.Grammar.{File as Grammar-as-File}
-use Rattle.csv.specs.promises.Rows.{crlf}
-use Rattle.csv.proofs.Written.{rows-file}
+use Rattle.csv_text.specs.Grammar.{File as Grammar-as-File}
+use Rattle.csv_text.specs.promises.Rows.{crlf}
+use Rattle.csv_text.proofs.Written.{rows-file}
 use Rattle.tables.specs.Table.{table, header}
 use Rattle.tables.specs.Reading.{rows, malformed, misshapen}
 use Rattle.tables.specs.promises.Laying.{FileRead}

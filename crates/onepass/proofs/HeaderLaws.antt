@@ -4,10 +4,10 @@ use Rattle.std.proofs.Common.{◌≡◌, ℕ, ◌+◌, ◌-◌, ◌<◌, ◌≤�
 use lib.Seq.{append_snoc}
 use Rattle.base.proofs.Lists.{drop-next, rest-lent}
 use Rattle.base.proofs.Tests.{lt-or-ge}
-use Rattle.csv.specs.Grammar.{Record}
-use Rattle.csv.specs.promises.Plain.{all_text, all_texts}
-use Rattle.csv.proofs.Written.{in_quotes, quoted-field, side_by_side, fields-record}
-use Rattle.csv.specs.Bytes.{CR, DQUOTE, LF}
+use Rattle.csv_text.specs.Grammar.{Record}
+use Rattle.csv_text.specs.promises.Plain.{all_text, all_texts}
+use Rattle.csv_text.proofs.Written.{in_quotes, quoted-field, side_by_side, fields-record}
+use Rattle.csv_text.specs.Bytes.{CR, DQUOTE, LF}
 use Rattle.tables.specs.Table.{header, joined, header_text, constraint_columns, supply_columns, schedules_columns, curves_columns, parents_columns}
 use Rattle.tables.specs.declared.files.File.{File}
 use Rattle.tables.specs.declared.files.File.TheVariants.{Constraint, Supply, Schedules, Curves, Parents}

@@ -4,9 +4,9 @@ use mathlib.Core.Option.{some}
 use Rattle.base.proofs.Tests.{false-true}
 use lib.Seq.{take-append-add, drop-append-add}
 use Rattle.base.proofs.Lists.{drop-next, drop-end, drop-back, rest-lent, rest_back}
-use Rattle.csv.specs.Grammar.{Field, Record}
-use Rattle.csv.specs.promises.Rows.{Breaks, at-end, crlf, Rows}
-use Rattle.csv.specs.Bytes.{COMMA, CR, LF}
+use Rattle.csv_text.specs.Grammar.{Field, Record}
+use Rattle.csv_text.specs.promises.Rows.{Breaks, at-end, crlf, Rows}
+use Rattle.csv_text.specs.Bytes.{COMMA, CR, LF}
 use Rattle.tables.specs.Table.{Form, numeral, signed, letter, Column, column, constraint_columns, supply_columns, schedules_columns, curves_columns, parents_columns, table, width}
 use Rattle.tables.specs.Values.{value, in_form}
 use Rattle.tables.specs.promises.Laying.{room}

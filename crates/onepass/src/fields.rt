@@ -28,7 +28,7 @@ const LETTER_Z: u8 = b'Z';
 
 // What was found at a place: whether it is what was looked for, where it ends, and its cell. The end
 // doesn't hang on the cell's value, so that the next field need not wait for it.
-#[derive(Drop)]
+#[derive(Clone, Copy)]
 pub struct Found {
     pub good: bool,
     pub next: usize,

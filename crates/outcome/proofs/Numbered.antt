@@ -24,7 +24,7 @@ use Rattle.outcome.specs.Study.{outcome, too_many_running, short_buffer, rows_re
 use Rattle.outcome.specs.Decision.{of_unit, no_cost_schedule}
 use Rattle.outcome.specs.Preview.{previewing, not_supplied, preview_refusals, preview_refusal, previewed}
 use Rattle.outcome.specs.Answer.{answer_text}
-use Rattle.csv.specs.Records.{records}
+use Rattle.csv_text.specs.Records.{records}
 use Rattle.supply.specs.Supply.{units, over_limit, supply_at_odds}
 use Rattle.schedules.specs.Schedules.{schedules_at_odds, not_in_supply, unscheduled}
 use Rattle.schedules.specs.Runs.{lacking}

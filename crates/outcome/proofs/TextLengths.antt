@@ -7,7 +7,7 @@ use lib.ListN.{length, length-append}
 use Rattle.base.specs.Text.{together}
 use Rattle.numeral.specs.Numeral.{digits}
 use Rattle.tables.specs.declared.answer.AnswerRow.{AnswerRow}
-use Rattle.csv.specs.Bytes.{COMMA}
+use Rattle.csv_text.specs.Bytes.{COMMA}
 use Rattle.outcome.specs.Answer.{CRLF, answer_header, line, answer_text}
 
 pub header-length : length answer_header ≡ 47

@@ -5,7 +5,7 @@ use Rattle.std.specs.Prelude.{ℕ, List, [], ◌∷◌, ◌++◌}
 use Rattle.base.specs.Text.{bytes, together}
 use Rattle.numeral.specs.Numeral.{digits}
 use Rattle.tables.specs.declared.answer.AnswerRow.{AnswerRow}
-use Rattle.csv.specs.Bytes.{COMMA, CR, LF}
+use Rattle.csv_text.specs.Bytes.{COMMA, CR, LF}
 
 -- what ends a record
 abbrev pub CRLF : List ℕ

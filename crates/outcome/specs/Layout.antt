@@ -1,7 +1,7 @@
 -- The fixed layout of an answer file by the grammar of numerals: document 01, "Answer file": "Unquoted, numerals as above, CR LF after
 -- every record, rows by rising unit." That it is the text that `Answer` writes is shown in `proofs/LayoutLaws`. Assumes nothing.
 use Rattle.std.specs.Prelude.{ℕ, ◌≡◌, List, [], ◌∷◌, ◌++◌}
-use Rattle.csv.specs.Bytes.{COMMA}
+use Rattle.csv_text.specs.Bytes.{COMMA}
 use Rattle.numeral.specs.Grammar.{Numeral}
 use Rattle.tables.specs.declared.answer.AnswerRow.{AnswerRow}
 use Rattle.outcome.specs.Answer.{answer_header, CRLF}

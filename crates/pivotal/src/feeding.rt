@@ -18,7 +18,7 @@ const TOTAL: u64 = AMOUNTS * AMOUNT;
 const PAST: u64 = AMOUNTS + 1;
 
 // The two largest of some amounts, 0 where fewer exist.
-#[derive(Drop)]
+#[derive(Clone, Copy)]
 pub struct Largest {
     pub first: u64,
     pub second: u64,
@@ -39,7 +39,7 @@ impl Largest {
 
 // What is kept of a test between calls: the place of the supplier tested, the need, how many amounts were
 // given, the total of the others' and the two largest of these.
-#[derive(Drop)]
+#[derive(Clone, Copy)]
 pub struct FedTest {
     pub place: u64,
     pub need: u64,

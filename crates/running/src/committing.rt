@@ -15,7 +15,7 @@ use cells::answer::{KIND, SCHEDULE, UNIT, cell};
 use tables::kind_of;
 
 // The unit that is next, and how many running and how many chosen units it uses up.
-#[derive(Drop)]
+#[derive(Clone, Copy)]
 struct Turn {
     next: Running,
     running: usize,

@@ -1,5 +1,7 @@
 // The units that a day has running: what is asked of them and what is done to them, without the
 // day's hour.
+#![tactic(auto)]
+
 mod asking;
 mod committing;
 mod forming;

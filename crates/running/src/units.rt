@@ -7,7 +7,7 @@ ghost use Rattle.running.specs.View.{units_of};
 use tables::Kind;
 
 // A running unit, with the number and kind of the schedule it runs on.
-#[derive(Drop)]
+#[derive(Clone, Copy)]
 pub struct Running {
     pub unit: u64,
     pub schedule: u64,
@@ -15,7 +15,7 @@ pub struct Running {
 }
 
 // The running units are the first `count` of `running`.
-#[derive(Drop)]
+#[derive(Clone, Copy)]
 pub struct Units {
     pub count: usize,
     pub running: [Running; Units::MOST],

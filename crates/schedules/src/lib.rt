@@ -1,5 +1,7 @@
 // What schedule rows must be to each other and to the units of supply: refusals 6 to 9, a rule each; and
 // rows linked by unit, and by unit and schedule.
+#![tactic(auto)]
+
 mod linking;
 mod odds;
 mod rows;

@@ -14,7 +14,7 @@ use links::{ROWS, link_at, unit_key};
 use numbers::contains;
 
 // The lowest unit at fault, if there is one.
-#[derive(Drop)]
+#[derive(Clone, Copy)]
 pub enum Lowest {
     Number(u64),
     Nothing,

@@ -1,6 +1,8 @@
 // The program: studies the files of the folder that it is run in with a fresh day, and prints
 // the answer file, or why there is none. Assumes nothing of the folder. What a file holds and what is
 // printed can't be said in a contract; what a study of those bytes gives is said by `study_in_room`.
+#![tactic(auto)]
+
 ghost use Rattle.std.specs.Prelude.{◌≢◌, ◌≤◌, length};
 ghost use Rattle.io.specs.Counts.{IsPrefixLen};
 ghost use Rattle.checking.specs.Files.{files};

@@ -23,7 +23,7 @@ const KEYS: usize = 1024;
 
 // The record that brings a unit or a supplier too many, 0 where none does; and how many units and
 // suppliers there are.
-#[derive(Drop)]
+#[derive(Clone, Copy)]
 pub struct Counts {
     pub place: usize,
     pub units: usize,

@@ -14,7 +14,7 @@ use borrow.Author.Tests.{leb-true, eqb-true}
 use Rattle.base.specs.Search.{first, All, all_none, all_more}
 use Rattle.base.proofs.Searches.{first-of-none, option-map-none, first-none-all}
 use Rattle.base.proofs.Tests.{and-fst, and-snd}
-use Rattle.csv.specs.Records.{records}
+use Rattle.csv_text.specs.Records.{records}
 use Rattle.tables.specs.promises.Ranges.{PermittedCells}
 use Rattle.tables.specs.Reading.{rows, same_fields, misfit, miscount, malformed, irregular, misshapen, refusal}
 use Rattle.tables.specs.Table.{Column, table, header, width}

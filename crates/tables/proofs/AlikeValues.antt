@@ -11,9 +11,9 @@ use borrow.Author.Tests.{eqb-false, ne_eqb, not-true}
 use Rattle.base.specs.Text.{same}
 use Rattle.base.proofs.Tests.{and-fst, and-snd}
 use Rattle.base.specs.promises.Counting.{leading}
-use Rattle.csv.proofs.Walk.{Alike}
-use Rattle.csv.proofs.Texts.{Alikes, no_field, field, AlikeRecords, no_record, record_of}
-use Rattle.csv.specs.Bytes.{DQUOTE}
+use Rattle.csv_text.proofs.Walk.{Alike}
+use Rattle.csv_text.proofs.Texts.{Alikes, no_field, field, AlikeRecords, no_record, record_of}
+use Rattle.csv_text.specs.Bytes.{DQUOTE}
 use Rattle.numeral.specs.Numeral.{number, within}
 use Rattle.numeral.proofs.Laws.{no-numeral-around}
 use Rattle.tables.specs.declared.files.File.{File}

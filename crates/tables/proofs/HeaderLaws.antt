@@ -8,7 +8,7 @@ use lib.ListN.{length, take, drop, length-drop}
 use lib.Seq.{drop-drop}
 use Rattle.base.specs.Text.{same}
 use Rattle.base.proofs.Lists.{drop-back, rest-lent}
-use Rattle.csv.specs.promises.Fields.{extent, inner, unread, texts, passed}
+use Rattle.csv_text.specs.promises.Fields.{extent, inner, unread, texts, passed}
 use Rattle.tables.specs.Reading.{same_fields}
 use Rattle.tables.specs.promises.Laying.{FieldsCompared, HeaderRead}
 use Rattle.tables.specs.Table.{header, joined, header_text, width, constraint_columns, supply_columns, schedules_columns, curves_columns, parents_columns}

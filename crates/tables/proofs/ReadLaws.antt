@@ -16,13 +16,13 @@ use Rattle.base.proofs.Searches.{first-leading, leading_le}
 use Rattle.base.proofs.Tests.{either, and-snd, false-true}
 use Rattle.base.specs.Text.{same}
 use Rattle.base.specs.promises.Counting.{leading}
-use Rattle.csv.specs.Records.{begin, rfc4180, records, rest}
-use Rattle.csv.specs.promises.Fields.{texts, record_texts}
-use Rattle.csv.specs.promises.Scan.{fitting, scanned}
-use Rattle.csv.specs.declared.scanning.Shape.{Shape}
-use Rattle.csv.specs.declared.scanning.Shape.TheVariants.{Regular, Irregular}
-use Rattle.csv.proofs.Decides.{read-file}
-use Rattle.csv.proofs.Texts.{fitting-first, fitting-tail, first-record, left-records, Alikes, AlikeRecords}
+use Rattle.csv_text.specs.Records.{begin, rfc4180, records, rest}
+use Rattle.csv_text.specs.promises.Fields.{texts, record_texts}
+use Rattle.csv_text.specs.promises.Scan.{fitting, scanned}
+use Rattle.csv_text.specs.declared.scanning.Shape.{Shape}
+use Rattle.csv_text.specs.declared.scanning.Shape.TheVariants.{Regular, Irregular}
+use Rattle.csv_text.proofs.Decides.{read-file}
+use Rattle.csv_text.proofs.Texts.{fitting-first, fitting-tail, first-record, left-records, Alikes, AlikeRecords}
 use Rattle.tables.specs.Table.{Column, table, header, width}
 use Rattle.tables.specs.Values.{cells, well_formed}
 use Rattle.tables.specs.Reading.{rows, same_fields, misfit, miscount, malformed, irregular, misshapen, refusal}

@@ -12,7 +12,7 @@ use lib.Dec.{eqb}
 use Rattle.base.proofs.Searches.{joined, joined-none, joined-more, one-le}
 use Rattle.base.proofs.Lists.{drop-next, drop-end, drop-back, rest-lent, rest_back}
 use Rattle.base.specs.promises.Counting.{one, leading}
-use Rattle.csv.specs.promises.Fields.{extent, inner, unread, texts, passed, record_texts}
+use Rattle.csv_text.specs.promises.Fields.{extent, inner, unread, texts, passed, record_texts}
 use Rattle.numeral.specs.declared.Answer.{Answer}
 use Rattle.numeral.specs.declared.Answer.TheVariants.{Number, Refused}
 use Rattle.numeral.specs.promises.Answers.{numeral_answer}

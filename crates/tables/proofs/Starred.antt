@@ -9,7 +9,7 @@ use Rattle.tables.specs.Table.{M, C}
 use Rattle.tables.specs.declared.files.Reading.TheVariants.{Rows}
 use Rattle.tables.specs.declared.files.File.TheVariants.{Constraint, Supply, Schedules}
 use Rattle.tables.specs.promises.Answers.{reading, laid}
-use Rattle.csv.proofs.Computing.{reading_all}
+use Rattle.csv_text.proofs.Computing.{reading_all}
 use Rattle.numeral.proofs.Computing.{numeral_all}
 use Rattle.tables.proofs.Computing.{table_reading_all, table_all, values_all}
 

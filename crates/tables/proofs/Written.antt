@@ -9,12 +9,12 @@ use lib.ListN.{length}
 use borrow.Author.Tests.{eq-eqb, le-leb}
 use Rattle.base.specs.Search.{first, first_of}
 use Rattle.base.proofs.Tests.{same_refl}
-use Rattle.csv.specs.Bytes.{CR, LF}
-use Rattle.csv.specs.Grammar.{Record, File as Grammar-as-File}
-use Rattle.csv.specs.Records.{records}
-use Rattle.csv.proofs.Decides.{file-read}
-use Rattle.csv.specs.promises.Plain.{all_text, all_texts}
-use Rattle.csv.proofs.Written.{plainly, plain-field, side_by_side, fields-record}
+use Rattle.csv_text.specs.Bytes.{CR, LF}
+use Rattle.csv_text.specs.Grammar.{Record, File as Grammar-as-File}
+use Rattle.csv_text.specs.Records.{records}
+use Rattle.csv_text.proofs.Decides.{file-read}
+use Rattle.csv_text.specs.promises.Plain.{all_text, all_texts}
+use Rattle.csv_text.proofs.Written.{plainly, plain-field, side_by_side, fields-record}
 use Rattle.tables.specs.Table.{Column, table, header, joined, header_text, width, constraint_columns, supply_columns, schedules_columns, curves_columns, parents_columns}
 use Rattle.tables.specs.Values.{is_some, cells, well_formed}
 use Rattle.tables.specs.Reading.{rows, same_fields, misfit, miscount, malformed, misshapen, refusal}

@@ -4,7 +4,7 @@ use Rattle.std.specs.Prelude.{ℕ, Bool, true, false, cond, not, ◌&&◌, List,
 use Rattle.std.proofs.Math.Option.{Option, none, some, map}
 use Rattle.base.specs.Search.{first, first_of}
 use Rattle.base.specs.Text.{same}
-use Rattle.csv.specs.Records.{rfc4180, records}
+use Rattle.csv_text.specs.Records.{rfc4180, records}
 use Rattle.tables.specs.Table.{table, header, width}
 use Rattle.tables.specs.Values.{well_formed}
 use Rattle.tables.specs.declared.files.File.{File}

@@ -7,7 +7,7 @@ use Prim.Native.String.{String}
 use Rattle.base.specs.Text.{bytes}
 use Rattle.tables.specs.declared.files.File.{File}
 use Rattle.tables.specs.declared.files.File.TheVariants.{Constraint, Supply, Schedules, Curves, Parents}
-use Rattle.csv.specs.Bytes.{COMMA, CR, LF}
+use Rattle.csv_text.specs.Bytes.{COMMA, CR, LF}
 
 -- what a field may hold
 pub data Form : Type 0 where

@@ -1,6 +1,6 @@
 // A row of the answer, by value, with verdict and kind as their letters.
 
-#[derive(Drop)]
+#[derive(Clone, Copy)]
 pub struct AnswerRow {
     pub unit: u64,
     pub supplier: u64,

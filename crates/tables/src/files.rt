@@ -3,7 +3,7 @@ ghost use Rattle.std.specs.Prelude.{◌≡◌};
 ghost use Rattle.tables.specs.Table.{table, width as table_width};
 
 // Why a call is refused: document 01's number, the file (0 for none) and the place in it.
-#[derive(Drop)]
+#[derive(Clone, Copy)]
 pub struct Refusal {
     pub number: u64,
     pub file: u64,
@@ -11,13 +11,13 @@ pub struct Refusal {
 }
 
 // A schedule's kind: market-based or cost-based.
-#[derive(Drop)]
+#[derive(Clone, Copy)]
 pub enum Kind {
     M,
     C,
 }
 
-#[derive(Drop)]
+#[derive(Clone, Copy)]
 pub enum File {
     Constraint,
     Supply,
@@ -27,7 +27,7 @@ pub enum File {
 }
 
 // What reading a file gives: how many rows it has, or why it is refused.
-#[derive(Drop)]
+#[derive(Clone, Copy)]
 pub enum Reading {
     Rows(usize),
     Refused(Refusal),

@@ -1,7 +1,7 @@
 // Headers: the names of a file's columns, field by field, against the first record of a file.
 ghost use Rattle.std.specs.Prelude.{◌≡◌, length, drop, ◌≤◌, false, take};
 ghost use Rattle.base.specs.Text.{same};
-ghost use Rattle.csv.specs.promises.Fields.{extent, inner, unread};
+ghost use Rattle.csv_text.specs.promises.Fields.{extent, inner, unread};
 ghost use Rattle.tables.specs.promises.Laying.{HeaderRead, FieldsCompared};
 
 use crate::files::{File, width};
@@ -21,7 +21,7 @@ pub const CURVES_HEADER: [u8; 29] = *b"unit,schedule,hour,mw,price\r\n";
 pub const PARENTS_HEADER: [u8; 17] = *b"supplier,parent\r\n";
 
 // A header that was read: whether every field has its name, and where the first row begins.
-#[derive(Drop)]
+#[derive(Clone, Copy)]
 pub struct Header {
     pub same: bool,
     pub next: usize,
@@ -65,9 +65,9 @@ fn compare_fields(s: &[u8], names: &[u8], count: usize) -> Header
 fn same_field(s: &[u8], t: &[u8]) -> bool
     ensures { result ≡ same (inner (take (extent false s.now) s.now)) (inner (take (extent false t.now) t.now)) }
 {
-    let n = csv::field_length(s);
-    let m = csv::field_length(t);
-    same_text(csv::inner(&s[0..n]), csv::inner(&t[0..m]))
+    let n = csv_text::field_length(s);
+    let m = csv_text::field_length(t);
+    same_text(csv_text::inner(&s[0..n]), csv_text::inner(&t[0..m]))
 }
 
 // Where what follows the field at the start of `s` begins.
@@ -75,6 +75,6 @@ fn next_field(s: &[u8]) -> usize
     ensures s_value { drop result s.now ≡ unread s.now (extent false s.now) }
     ensures upper_bound { result ≤ length s.now }
 {
-    let n = csv::field_length(s);
-    csv::after_field(s, n)
+    let n = csv_text::field_length(s);
+    csv_text::after_field(s, n)
 }

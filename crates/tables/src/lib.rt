@@ -1,5 +1,7 @@
 // The one fixed table of the files, and one reader for every file: from bytes to rows of cells, or
 // the first refusal. Assumes nothing of the bytes.
+#![tactic(auto)]
+
 mod answer;
 mod columns;
 mod constraint;

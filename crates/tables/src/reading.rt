@@ -6,7 +6,7 @@ ghost use Rattle.tables.specs.Refusals.{refused as reading_refused};
 use crate::files::{File, Reading, Refusal, fewest_rows, most_rows, number, width};
 use crate::headers::read_header;
 use crate::rows::lay_rows;
-use csv::Shape;
+use csv_text::Shape;
 
 // Reads a file into the lent run of cells, row behind row. Where it is refused with 1, 2 or 4, the
 // run is as it was; an ill-formed field leaves a 0.
@@ -14,7 +14,7 @@ pub fn read(file: File, s: &[u8], cells: &mut [u64]) -> Reading
     requires { room file ≤ length cells.old }
     ensures { FileRead file s.now cells.old cells.new result }
 {
-    let shape = csv::scan(s, width(file));
+    let shape = csv_text::scan(s, width(file));
     match shape {
         Shape::Regular(records, fitting) => read_records(file, s, records, fitting, cells),
         Shape::Irregular => refused(1, file, 0),

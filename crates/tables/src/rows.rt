@@ -11,7 +11,7 @@ use crate::files::{File, width};
 use numeral::Answer;
 
 // A field that was read: whether it is well-formed, its cell, and where what follows it begins.
-#[derive(Drop)]
+#[derive(Clone, Copy)]
 pub struct Field {
     pub good: bool,
     pub cell: u64,
@@ -19,7 +19,7 @@ pub struct Field {
 }
 
 // A row that was laid down: whether every field is well-formed, and where what follows it begins.
-#[derive(Drop)]
+#[derive(Clone, Copy)]
 pub struct Row {
     pub good: bool,
     pub next: usize,
@@ -92,10 +92,10 @@ fn read_field(column: usize, s: &[u8]) -> Field
     requires { column < column_count }
     ensures { FieldRead column s.now result }
 {
-    let n = csv::field_length(s);
-    let text = csv::inner(&s[0..n]);
+    let n = csv_text::field_length(s);
+    let text = csv_text::inner(&s[0..n]);
     let answer = cell(column, text);
-    let next = csv::after_field(s, n);
+    let next = csv_text::after_field(s, n);
     match answer {
         Answer::Number(v) => Field {
             good: true,

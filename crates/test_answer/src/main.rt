@@ -1,5 +1,7 @@
 // Cases of the answer's text: how long it is, then the bytes lent for it and three behind them, in a
 // buffer full of dots. The file `stdout` was made from document 01 alone. Assumes nothing.
+#![tactic(auto)]
+
 ghost use Rattle.std.specs.Prelude.{◌+◌, ◌*◌, ◌≤◌, length};
 ghost use Rattle.base.specs.Search.{All};
 ghost use Rattle.cells.specs.promises.Letters.{Lettered};

@@ -8,7 +8,7 @@ const BASE: u8 = 16;
 const TEN: u8 = 10;
 
 // A byte, and how many bytes of a text stand for it: none where they aren't in the form.
-#[derive(Drop)]
+#[derive(Clone, Copy)]
 struct Step {
     used: usize,
     byte: u8,

@@ -6,6 +6,8 @@
 // A writer writes at the start of `out` and answers how many bytes it wrote, or the whole of `out`
 // where the text isn't in the form or has no room. A writer behind it then has no room either, so
 // bytes that fill their buffer are those of a case that can't be read. Assumes nothing.
+#![tactic(auto)]
+
 mod escapes;
 mod files;
 mod lines;

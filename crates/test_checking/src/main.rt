@@ -14,6 +14,8 @@
 // ROW N times over, and BYTES behind it, or nothing where the file never has this mark. Lines and
 // escapes are those of the crate `test_cases`. Assumes nothing; a line that is not in the form prints
 // `unreadable case`.
+#![tactic(auto)]
+
 mod building;
 mod report;
 

@@ -7,6 +7,8 @@
 // for a unit that is `exposed` or `not-exposed` and that the day has `not-running`, `on-M` or `on-C`.
 // Behind it stand the unit's schedule rows, indented by two spaces. Lines are those of the crate
 // `test_cases`. Assumes nothing; a case that is not in the form prints `unreadable case`.
+#![tactic(auto)]
+
 mod answering;
 mod report;
 

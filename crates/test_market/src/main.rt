@@ -7,6 +7,8 @@
 //
 // Lines are those of the crate `test_cases`. Assumes nothing; a line that is not in the form prints
 // `unreadable case`.
+#![tactic(auto)]
+
 mod answering;
 mod report;
 

@@ -10,6 +10,8 @@
 // where FILE is `constraint`, `supply`, `schedules`, `curves` or `parents`. One space stands between two
 // words, and BYTES that are missing are none. Lines and escapes are those of the crate `test_cases`. Assumes
 // nothing; a line that is not in the form prints `unreadable case`.
+#![tactic(auto)]
+
 mod building;
 mod report;
 

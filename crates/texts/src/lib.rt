@@ -1,4 +1,6 @@
 // Texts compared, and taken apart at a byte.
+#![tactic(auto)]
+
 mod comparing;
 mod parting;
 

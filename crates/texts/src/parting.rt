@@ -7,7 +7,12 @@ fn end(text: &[u8], stop: u8) -> usize
     ensures value { result ≡ length (before stop text.now) }
     ensures upper_bound { result ≤ length text.now }
 {
-    bytes::scan::find(text, 0, text.len(), stop)
+    for (i, b) in text.iter().enumerate() {
+        if *b == stop {
+            return i;
+        }
+    }
+    text.len()
 }
 
 // What stands before the first stop.

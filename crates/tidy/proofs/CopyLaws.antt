@@ -11,11 +11,11 @@ use Rattle.base.specs.Search.{All, all_none, all_more}
 use Rattle.base.specs.Text.{together}
 use borrow.Author.Tests.{ne_eqb}
 use Rattle.base.proofs.Tests.{and-fst, and-snd, false-true}
-use Rattle.csv.specs.Grammar.{TEXTDATA, NonEscaped, Opened, Escaped, Field, Record, File}
-use Rattle.csv.specs.Records.{textdata}
-use Rattle.csv.specs.Bytes.{COMMA, CR, DQUOTE, LF}
-use Rattle.csv.specs.promises.Plain.{all_text, all_texts}
-use Rattle.csv.proofs.Steps.{text-not}
+use Rattle.csv_text.specs.Grammar.{TEXTDATA, NonEscaped, Opened, Escaped, Field, Record, File}
+use Rattle.csv_text.specs.Records.{textdata}
+use Rattle.csv_text.specs.Bytes.{COMMA, CR, DQUOTE, LF}
+use Rattle.csv_text.specs.promises.Plain.{all_text, all_texts}
+use Rattle.csv_text.proofs.Steps.{text-not}
 use Rattle.tables.specs.Table.{joined, record_text}
 use Rattle.tidy.specs.promises.Copying.{kept, unquoted, last_end, copied}
 

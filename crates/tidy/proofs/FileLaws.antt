@@ -11,7 +11,7 @@ use Rattle.base.specs.Text.{written}
 use Rattle.base.specs.promises.Writing.{Wrote}
 use Rattle.base.proofs.FirstLaws.{first-of-one, first-of-part, first-of-rest}
 use Rattle.base.proofs.Searches.{first-of-none}
-use Rattle.csv.proofs.Decides.{read-file}
+use Rattle.csv_text.proofs.Decides.{read-file}
 use Rattle.tables.specs.Reading.{refusal}
 use Rattle.tables.specs.Refusals.{bare_refusal}
 use Rattle.tables.specs.declared.constraint.ConstraintRow.{ConstraintRow}

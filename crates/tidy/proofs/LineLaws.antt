@@ -11,7 +11,7 @@ use Rattle.base.specs.promises.Writing.{Wrote}
 use Rattle.base.proofs.Lists.{drop-next, drop-end, rest-lent}
 use Rattle.base.proofs.Together.{Writing}
 use Rattle.base.proofs.Writers.{wrote_none, wrote-next, wrote-length}
-use Rattle.csv.specs.Bytes.{LF}
+use Rattle.csv_text.specs.Bytes.{LF}
 use Rattle.tidy.specs.promises.Copying.{kept, unquoted, line_length, LineWritten}
 use Rattle.tidy.proofs.CopyLaws.{unquoted-append, no_more}
 

@@ -12,7 +12,7 @@ use borrow.Author.Tests.{leb-true, ltb-true, ltb-false}
 use Rattle.base.specs.Search.{first, All, all_none, all_more}
 use Rattle.base.specs.Text.{together}
 use Rattle.base.proofs.Searches.{first-none-all}
-use Rattle.csv.specs.Bytes.{COMMA, CR, LF}
+use Rattle.csv_text.specs.Bytes.{COMMA, CR, LF}
 use Rattle.numeral.specs.Numeral.{digits}
 use Rattle.numeral.proofs.Laws.{length-longer}
 use Rattle.tables.specs.Table.{Form, numeral, signed, letter, Column, table, header, joined, record_text, constraint_columns, supply_columns, schedules_columns, curves_columns, parents_columns}

@@ -9,7 +9,7 @@ use lib.ListN.{length, get_or, set}
 use mir.Val.{bool_byte}
 use Rattle.base.proofs.Lists.{drop-next}
 use Rattle.base.proofs.Together.{Counting, count_next, count-over, Writing, writing-room, writing-nothing, writing-byte}
-use Rattle.csv.specs.Bytes.{DQUOTE}
+use Rattle.csv_text.specs.Bytes.{DQUOTE}
 use Rattle.tidy.specs.promises.Copying.{kept, unquoted}
 use Rattle.tidy.proofs.CopyLaws.{quote-dropped, byte-kept, kept-short}
 

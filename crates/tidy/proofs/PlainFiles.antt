@@ -8,10 +8,10 @@ use native.Mathlib.Omega.{arith}
 use lib.ListN.{length, length-append}
 use Rattle.base.specs.Search.{All, all_none, all_more}
 use Rattle.base.specs.Text.{together}
-use Rattle.csv.specs.Bytes.{COMMA, CR, LF}
-use Rattle.csv.specs.Grammar.{Record, File}
-use Rattle.csv.specs.promises.Plain.{all_texts}
-use Rattle.csv.proofs.Written.{plainly, plain-field, side_by_side, fields-record}
+use Rattle.csv_text.specs.Bytes.{COMMA, CR, LF}
+use Rattle.csv_text.specs.Grammar.{Record, File}
+use Rattle.csv_text.specs.promises.Plain.{all_texts}
+use Rattle.csv_text.proofs.Written.{plainly, plain-field, side_by_side, fields-record}
 use Rattle.tables.specs.Table.{joined, record_text}
 
 -- the fields of a record that needs no quotes

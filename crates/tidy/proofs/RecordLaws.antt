@@ -13,8 +13,8 @@ use Rattle.base.specs.Search.{All, all_none, all_more}
 use Rattle.base.specs.Text.{same, together}
 use Rattle.base.proofs.Searches.{first-none-all}
 use Rattle.base.proofs.Tests.{and-fst, and-snd, false-true, same-eq}
-use Rattle.csv.specs.Records.{rfc4180, records}
-use Rattle.csv.specs.promises.Plain.{all_texts}
+use Rattle.csv_text.specs.Records.{rfc4180, records}
+use Rattle.csv_text.specs.promises.Plain.{all_texts}
 use Rattle.tables.specs.Table.{table, header, record_text, width}
 use Rattle.tables.specs.Values.{cells, well_formed}
 use Rattle.tables.specs.Reading.{rows, same_fields, misfit, malformed, irregular, refusal}

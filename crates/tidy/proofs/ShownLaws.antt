@@ -14,10 +14,10 @@ use Rattle.base.specs.Search.{first, All, all_more}
 use Rattle.base.specs.Text.{same}
 use Rattle.base.proofs.Searches.{first-none-all}
 use Rattle.base.proofs.Tests.{and-fst, and-snd, false-true, same_refl, same-eq}
-use Rattle.csv.specs.Grammar.{above-comma}
-use Rattle.csv.specs.Records.{textdata}
-use Rattle.csv.specs.promises.Plain.{all_text, all_texts}
-use Rattle.csv.proofs.Steps.{textdata-true}
+use Rattle.csv_text.specs.Grammar.{above-comma}
+use Rattle.csv_text.specs.Records.{textdata}
+use Rattle.csv_text.specs.promises.Plain.{all_text, all_texts}
+use Rattle.csv_text.proofs.Steps.{textdata-true}
 use Rattle.numeral.specs.Grammar.{Digit}
 use Rattle.numeral.specs.Numeral.{number, within, digits}
 use Rattle.numeral.proofs.Laws.{number_digits, digits_number, digits-digit, within-some}

@@ -9,8 +9,8 @@ use lib.ListN.{length, length-map}
 use Rattle.base.specs.Search.{first_of, All, all_none, all_more}
 use Rattle.base.specs.Text.{together}
 use Rattle.base.proofs.Searches.{first-of-none}
-use Rattle.csv.specs.Grammar.{File as Grammar-as-File}
-use Rattle.csv.proofs.Computing.{reading_all}
+use Rattle.csv_text.specs.Grammar.{File as Grammar-as-File}
+use Rattle.csv_text.proofs.Computing.{reading_all}
 use Rattle.tables.specs.Table.{Column, table, header, constraint_columns, supply_columns, schedules_columns, curves_columns, parents_columns}
 use Rattle.tables.specs.Values.{cells}
 use Rattle.tables.specs.Reading.{refusal}

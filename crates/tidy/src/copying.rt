@@ -15,14 +15,14 @@ const DQUOTE: u8 = 0x22;
 const SHORT_FOR_TIDY: u64 = 30;
 
 // What a call gives: how many bytes it wrote, or why it is refused.
-#[derive(Drop)]
+#[derive(Clone, Copy)]
 pub enum Tidy {
     Written(usize),
     Refused(Refusal),
 }
 
 // A line that was written: how many bytes of the text it takes, and how many of the buffer.
-#[derive(Drop)]
+#[derive(Clone, Copy)]
 struct Line {
     read: usize,
     written: usize,
@@ -132,7 +132,10 @@ fn write_last_end(s: &[u8], out: &mut [u8]) -> usize
     if ends_in_line_end(s) {
         return 0;
     }
-    bytes::copy(b"\r\n", out)
+    let end = b"\r\n";
+    let length = end.len();
+    out[..length].copy_from_slice(end);
+    length
 }
 
 fn ends_in_line_end(s: &[u8]) -> bool

@@ -1,6 +1,8 @@
 // The writer of tidy files: constraint, supply or schedules as the engine understood them, unquoted and with
 // a CR LF after each record. A value has one text, so the tidy file of a file that is not refused is that file
 // without its quotes, and is copied. Assumes nothing of the bytes and the buffer.
+#![tactic(auto)]
+
 mod copying;
 mod files;
 mod longest;

@@ -3,7 +3,7 @@ use Rattle.std.specs.Prelude.{ℕ, List, [], ◌∷◌, ◌++◌}
 use Rattle.numeral.specs.Numeral.{digits}
 use Rattle.outcome.specs.Answer.{CRLF}
 use Rattle.tables.specs.declared.answer.AnswerRow.{AnswerRow}
-use Rattle.csv.specs.Bytes.{COMMA}
+use Rattle.csv_text.specs.Bytes.{COMMA}
 
 -- a number and the comma behind it
 unfoldable pub number_field : ℕ → List ℕ

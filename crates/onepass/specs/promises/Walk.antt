@@ -2,9 +2,9 @@
 -- header at the start of a part of a file. A step that gives up says so, or answers 0, and promises nothing. Assumes nothing.
 use Rattle.std.specs.Prelude.{◌≡◌, ℕ, ◌+◌, ◌-◌, ◌<◌, ◌≤◌, Bool, true, false, cond, List, [], ◌∷◌, ◌++◌, length, take, drop, ◌==◌, slice_index}
 use Rattle.std.proofs.Math.Option.{Option, some}
-use Rattle.csv.specs.Grammar.{NonEscaped, Field, Record}
-use Rattle.csv.specs.Bytes.{COMMA, CR, DQUOTE, LF}
-use Rattle.csv.specs.promises.Rows.{Breaks, Rows}
+use Rattle.csv_text.specs.Grammar.{NonEscaped, Field, Record}
+use Rattle.csv_text.specs.Bytes.{COMMA, CR, DQUOTE, LF}
+use Rattle.csv_text.specs.promises.Rows.{Breaks, Rows}
 use Rattle.tables.specs.Table.{Form, numeral, signed, letter, table, header, width}
 use Rattle.tables.proofs.ColumnLaws.{forms as all_forms, minima as all_minima, maxima as all_maxima}
 use Rattle.tables.specs.promises.Laying.{FileRead}

@@ -1,9 +1,9 @@
 -- What the steps of reading a file promise: of a field, a row, several rows, the header, and the whole. Assumes nothing.
 use Rattle.std.specs.Prelude.{ℕ, ◌+◌, ◌*◌, ◌≤◌, ◌≡◌, true, false, List, ◌++◌, length, take, drop}
 use Rattle.std.proofs.Math.Option.{none, get_or}
-use Rattle.csv.specs.Records.{rfc4180, records}
-use Rattle.csv.specs.promises.Scan.{fitting}
-use Rattle.csv.specs.promises.Fields.{extent, inner, unread, texts, passed, record_texts}
+use Rattle.csv_text.specs.Records.{rfc4180, records}
+use Rattle.csv_text.specs.promises.Scan.{fitting}
+use Rattle.csv_text.specs.promises.Fields.{extent, inner, unread, texts, passed, record_texts}
 use Rattle.tables.specs.Table.{table, header, width}
 use Rattle.tables.specs.Reading.{same_fields, misfit, rows}
 use Rattle.tables.specs.Values.{value, is_some, cells, well_formed}

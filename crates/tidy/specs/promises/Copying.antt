@@ -3,7 +3,7 @@
 use Rattle.std.specs.Prelude.{ℕ, suc, ◌-◌, ◌≡◌, cond, List, [], ◌∷◌, ◌++◌, eqb, length, get_or, take}
 use Rattle.base.specs.Text.{together}
 use Rattle.base.specs.promises.Writing.{Wrote}
-use Rattle.csv.specs.Bytes.{CR, DQUOTE, LF}
+use Rattle.csv_text.specs.Bytes.{CR, DQUOTE, LF}
 
 -- a byte, unless it is a quote
 unfoldable pub kept : ℕ → List ℕ

@@ -1,0 +1,16 @@
+-- A byte behind a field. Assumes nothing.
+use borrow.Author.Tests.{eq-eqb, ne_eqb}
+use Rattle.csv_text.proofs.scanning.after_field.Statement.{statement}
+use Rattle.csv_text.proofs.scanning.after_field.Tie as tie
+
+returns : tie.Need-returns
+returns c = simp (eq-eqb _ _ c.if1.true)
+
+returns-2 : tie.Need-returns-2
+returns-2 c = simp (ne_eqb _ _ c.before.if1.false, eq-eqb _ _ c.if2.true)
+
+returns-3 : tie.Need-returns-3
+returns-3 c = simp (ne_eqb _ _ c.before.if1.false, ne_eqb _ _ c.if2.false)
+
+pub after-field-spec : {M : Type 1} → statement M
+after-field-spec = tie.close (tie.spec returns returns-2 returns-3)

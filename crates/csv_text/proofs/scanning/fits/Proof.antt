@@ -1,0 +1,16 @@
+-- Whether the record that ends goes on the run of fitting ones. Assumes nothing.
+use borrow.Author.Tests.{eq-eqb, ne_eqb}
+use Rattle.csv_text.proofs.scanning.fits.Statement.{statement}
+use Rattle.csv_text.proofs.scanning.fits.Tie as tie
+
+returns : tie.Need-returns
+returns c = simp (eq-eqb _ _ c.before.if1.true, eq-eqb _ _ c.if2.true)
+
+returns-2 : tie.Need-returns-2
+returns-2 c = simp (eq-eqb _ _ c.before.if1.true, ne_eqb _ _ c.if2.false)
+
+returns-3 : tie.Need-returns-3
+returns-3 c = simp (ne_eqb _ _ c.if1.false)
+
+pub fits-spec : {M : Type 1} → statement M
+fits-spec = tie.close (tie.spec returns returns-2 returns-3)

@@ -33,7 +33,7 @@ pub data AllFit (n : ℕ) : List (List (List ℕ)) → Type 0 where
 
 -- the fields that are left of a record
 pub within-texts :
-    {s t : List ℕ} {vs : List (List ℕ)} →
+    {vs : List (List ℕ)} {s t : List ℕ} →
     Within s vs t → Alikes vs (texts (length vs) s) × (passed (length vs) s ≡ t)
 unfolding texts passed
 within-texts {vs = []} over = (no_field, refl)
@@ -53,7 +53,7 @@ first-record n e f =
 
 -- the records that are left of a file
 pub left-records :
-    {s : List ℕ} {rs : List (List (List ℕ))} (n : ℕ) →
+    (n : ℕ) {s : List ℕ} {rs : List (List (List ℕ))} →
     AllFit n rs → Left s rs → AlikeRecords rs (record_texts n (length rs) s)
 unfolding record_texts
 left-records n all l = no_record

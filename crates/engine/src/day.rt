@@ -26,7 +26,7 @@ impl Day {
     // A day before its first study, with nothing running.
     pub fn fresh() -> Day
         ensures result_value { view_of result ≡ fresh_day }
-        ensures* do_value { do ⌜ (← (⟦Day::UNITS⟧).entry) ≡ most_running ⌝ }
+        ensures most { Day.UNITS ≡ most_running }
     {
         Day {
             hour: LastHour::Fresh,

@@ -46,7 +46,7 @@ module _ {A : Type 0} (column : A → ℕ) where
   rises-from : {xs : List ℕ} (rs : List A) → Rises xs → Rises (numbers_from column xs rs)
   unfolding numbers_from
   rises-from [] h = h
-  rises-from (r ∷ rs) h = rises-from rs (inserted-rises (column r) h)
+  rises-from {xs = xs} (r ∷ rs) h = rises-from {xs = inserted (column r) xs} rs (inserted-rises (column r) h)
 
   pub numbers-rise : (rs : List A) → Rises (numbers_of column rs)
   unfolding numbers_of
@@ -57,7 +57,7 @@ module _ {A : Type 0} (column : A → ℕ) where
       RisingFrom b (numbers_from column xs rs)
   unfolding numbers_from
   above_from h all_none = h
-  above_from h (all_more {x = r} p a) = above_from (inserted_rising (column r) p h) a
+  above_from {b = b} {xs = xs} h (all_more {x = r} {xs = xs'} p a) = above_from {xs = inserted (column r) xs} (inserted_rising (column r) p h) a
 
   -- above a bound, where every row's is
   pub numbers-above : {b : ℕ} {rs : List A} → All (λ (r : A). b < column r) rs → RisingFrom b (numbers_of column rs)

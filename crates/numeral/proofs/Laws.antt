@@ -125,10 +125,12 @@ length-longer m n h = longer-from n m n (omega arith) h
 
 -- every byte of a numeral is a digit
 digits-all : {m n b : ℕ} {s : List ℕ} → Digits m s n → Memᴰ b s → Digit b
+digits-all {b = b} (end {m = m}) x5 = elim x5 [ ]
 digits-all (digit d r) (Memᴰ.head e) = rw e d
 digits-all (digit d r) (Memᴰ.tail i) = digits-all r i
 
 pub numeral-digit : {b n : ℕ} {s : List ℕ} → Numeral s n → Memᴰ b s → Digit b
+numeral-digit {b = b} zero-itself (Memᴰ.tail x8) = elim x8 [ ]
 numeral-digit zero-itself (Memᴰ.head e) = rw e (omega arith)
 numeral-digit (no-leading-zero h r) i = digits-all r i
 

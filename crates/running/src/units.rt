@@ -28,7 +28,7 @@ impl Units {
     // Nothing running.
     pub fn none() -> Units
         ensures result_value { units_of result ≡ [] }
-        ensures* do_value { do ⌜ (← (⟦Units::MOST⟧).entry) ≡ most_running ⌝ }
+        ensures most { Units.MOST ≡ most_running }
     {
         let unused = Running {
             unit: 0,

@@ -1,34 +1,36 @@
 -- Laws of the two sides of the first stop in a text, over plain lists. Assumes nothing.
-use Prim.Native.Nat.{ℕ, zero, suc, ◌+◌, ◌-◌, min}
+use Prim.Native.Nat.{ℕ, zero, suc, ◌+◌, ◌-◌, ◌<◌, min}
 use mathlib.Core.Path.{◌≡◌, refl, ap, ◌∙◌}
 use mathlib.Core.Bool.{Bool, true, false, cond}
 use mathlib.Core.List.{List, [], ◌∷◌}
-use native.Mathlib.Nat.{le_refl}
 use native.Mathlib.Omega.{arith}
+use native.Mathlib.Numerals.{add-one}
 use lib.Dec.{eqb}
-use lib.ListN.{length, take, drop}
-use lib.Seq.{take_all}
-use Rattle.bytes.specs.Bytes.{index_after, index_of, slice}
+use lib.ListN.{length, get_or, take, drop}
+use lib.Seq.{drop-cons, drop-length}
 use Rattle.base.proofs.Lists.{rest-lent}
 use Rattle.texts.specs.promises.Parting.{before, past, past_place}
 
 module _ (stop : ℕ) where
-  -- the first stop stands behind all that is before it
-  index-before : (s : List ℕ) → index_of stop s ≡ length (before stop s)
-  unfolding index_of index_after before
-  index-before [] = refl
-  index-before (b ∷ s) = step (eqb b stop) (index-before s)
-    where
-      step :
-          (t : Bool) → index_of stop s ≡ length (before stop s) →
-          index_after t (index_of stop s) ≡ length (cond t [] (b ∷ before stop s))
-      step true e = refl
-      step false e = ap suc e
+  -- what is before the first stop of what is left, one byte on and at the stop
+  pub before-step :
+      (s : List ℕ) (i : ℕ) → i < length s →
+      before stop (drop i s) ≡ cond (eqb (get_or s i 0) stop) [] (get_or s i 0 ∷ before stop (drop (i + 1) s))
+  unfolding before
+  before-step s i h = rw (drop-cons s i 0 h, add-one i) refl
 
-  -- and is found there by a search of the whole text
-  pub found_before : (s : List ℕ) → index_of stop (slice 0 (length s) s) ≡ length (before stop s)
-  unfolding slice
-  found_before s = rw (take_all (length s) s (le_refl (length s))) (index-before s)
+  pub before-on :
+      (s : List ℕ) (i : ℕ) → i < length s → eqb (get_or s i 0) stop ≡ false →
+      length (before stop (drop i s)) ≡ suc (length (before stop (drop (i + 1) s)))
+  before-on s i h e = rw (before-step s i h, e) refl
+
+  pub before-here :
+      (s : List ℕ) (i : ℕ) → i < length s → eqb (get_or s i 0) stop ≡ true → length (before stop (drop i s)) ≡ 0
+  before-here s i h e = rw (before-step s i h, e) refl
+
+  pub before-end : (s : List ℕ) → length (before stop (drop (length s) s)) ≡ 0
+  unfolding before
+  before-end s = rw (drop-length s) refl
 
   take-before : (s : List ℕ) → take (length (before stop s)) s ≡ before stop s
   unfolding before

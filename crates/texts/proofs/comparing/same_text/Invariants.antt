@@ -1,0 +1,12 @@
+-- Two texts, one byte a turn. Assumes nothing.
+use Prim.Native.Nat.{◌≤◌, ◌-◌}
+use mathlib.Core.Path.{◌≡◌}
+use lib.ListN.{length, drop}
+use Rattle.base.specs.Text.{same}
+use Rattle.texts.proofs.comparing.same_text.Given as goal
+
+abbrev pub invariant-loop-i : goal.invariant-loop-i
+invariant-loop-i l = (l.i ≤ length l.s) × (same l.s l.t ≡ same (drop l.i l.s) (drop l.i l.t))
+
+abbrev pub decreases-loop-i : goal.decreases-loop-i
+decreases-loop-i l = length l.s - l.i

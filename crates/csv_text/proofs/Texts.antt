@@ -12,7 +12,7 @@ use Rattle.csv_text.specs.Grammar.{File}
 use Rattle.csv_text.specs.promises.Fields.{texts, passed, record_texts}
 use Rattle.csv_text.specs.promises.Scan.{fitting}
 use Rattle.base.specs.promises.Counting.{leading}
-use Rattle.csv_text.proofs.Walk.{Alike, Within, over, Left, some, file-first, within-next}
+use Rattle.csv_text.proofs.Walk.{Alike, Within, over, still, Left, some, file-first, within-next}
 
 -- a record's fields beside their texts
 pub data Alikes : List (List ℕ) → List (List ℕ) → Type 0 where
@@ -36,10 +36,11 @@ pub within-texts :
     {vs : List (List ℕ)} {s t : List ℕ} →
     Within s vs t → Alikes vs (texts (length vs) s) × (passed (length vs) s ≡ t)
 unfolding texts passed
+within-texts {vs = []} {s = s} {t = t} (still {r = r} n _) = elim n [ ]
 within-texts {vs = []} over = (no_field, refl)
 within-texts {vs = v ∷ vs} w =
     let x = within-next w in
-    let more = within-texts x.on in
+    let more = within-texts {vs = vs} x.on in
     (field x.alike more.0, more.1)
 
 -- a file's first record
@@ -57,9 +58,9 @@ pub left-records :
     AllFit n rs → Left s rs → AlikeRecords rs (record_texts n (length rs) s)
 unfolding record_texts
 left-records n all l = no_record
-left-records n (fits e more) (some f) =
+left-records n {s = s} (fits e more) (some f) =
     let x = first-record n e f in
-    record_of x.0 (left-records n more x.1)
+    record_of x.0 (left-records n {s = passed n s} more x.1)
 
 -- What the scan counts: the records that fit, up to the first that doesn't.
 module _ (n : ℕ) where

@@ -1,5 +1,5 @@
 -- What the steps of reading a file promise: of a field, a row, several rows, the header, and the whole. Assumes nothing.
-use Rattle.std.specs.Prelude.{ℕ, ◌+◌, ◌*◌, ◌≤◌, ◌≡◌, true, false, List, ◌++◌, length, take, drop}
+use Rattle.std.specs.Prelude.{ℕ, ◌*◌, ◌≤◌, ◌≡◌, true, false, List, ◌++◌, length, take, drop}
 use Rattle.std.proofs.Math.Option.{none, get_or}
 use Rattle.csv_text.specs.Records.{rfc4180, records}
 use Rattle.csv_text.specs.promises.Scan.{fitting}

@@ -1,0 +1,52 @@
+-- A row, one field a turn. Assumes nothing.
+use native.Mathlib.Omega.{arith}
+use Rattle.tables.specs.Table.{width}
+use Rattle.tables.specs.promises.Columns.{first_column}
+use Rattle.tables.proofs.RowLaws.{Laying, laying-none, laying-next, laying-over, within_all}
+use Rattle.tables.proofs.rows.lay_row.Goals as goal
+
+pub loop-c-init : goal.loop-c-init
+loop-c-init c =
+    let f = c.args.file in
+    laying-none _ _ _ _
+    (rw (c.first_column-first.ensures, c.width-columns.ensures) (within_all f))
+    (rw c.width-columns.ensures c.requires)
+
+pub overflow_add-first : goal.overflow_add-first
+overflow_add-first c = omega arith
+
+pub read_field-field-requires : goal.read_field-field-requires
+read_field-field-requires c = omega arith
+
+pub bounds-out-c : goal.bounds-out-c
+bounds-out-c c = omega arith
+
+pub slice_bounds-rest-count : goal.slice_bounds-rest-count
+slice_bounds-rest-count c = omega arith
+
+pub slice_bounds-rest-start : goal.slice_bounds-rest-start
+slice_bounds-rest-start c = omega arith
+
+pub slice_bounds-rest-end : goal.slice_bounds-rest-end
+slice_bounds-rest-end c = omega arith
+
+pub overflow_add-c : goal.overflow_add-c
+overflow_add-c c = omega arith
+
+pub loop-c-smaller : goal.loop-c-smaller
+loop-c-smaller c = omega arith
+
+pub loop-c-preserved : goal.loop-c-preserved
+loop-c-preserved c =
+    rw c.both-good.ensures
+    (laying-next _ _ _ _ _ c.loop-c.rest.now _ _ c.read_field-field.result c.loop-c.invariant (omega arith) c.read_field-field.ensures)
+
+pub shape_of-out : goal.shape_of-out
+shape_of-out c = c.loop-c.invariant.same_length
+
+pub returns : goal.returns
+returns c =
+    let l : Laying _ _ (first_column c.args.file) (width c.args.file) _ _ _ _ =
+    rw (c.first_column-first.ensures, c.width-columns.ensures) at c.loop-c.invariant
+    in
+    laying-over _ _ _ _ _ _ _ l (omega (arith, c.width-columns.ensures))

@@ -33,14 +33,14 @@ of-kinds kinds (row ∷ rows) e = go (of_kinds kinds row) refl e (of-kinds kinds
     go false f e more = ((more e).0, later (more e).1, (more e).2)
 
 any_of :
-    (kinds : Kinds) {all : List ScheduleRow} {row : ScheduleRow} → Among row all → of_kinds kinds row ≡ true →
+    (kinds : Kinds) {row : ScheduleRow} {all : List ScheduleRow} → Among row all → of_kinds kinds row ≡ true →
     has_any kinds all ≡ true
 unfolding has_any
 any_of kinds {row = row} (first {x = r} f) e = simp (ap (of_kinds kinds) (sym f) ∙ e)
 any_of kinds (later {x = r} m) e = simp (any_of kinds m e) (or-true (of_kinds kinds r))
 
 none-of-kinds :
-    (kinds : Kinds) {all : List ScheduleRow} {row : ScheduleRow} → has_any kinds all ≡ false → Among row all →
+    (kinds : Kinds) {row : ScheduleRow} {all : List ScheduleRow} → has_any kinds all ≡ false → Among row all →
     of_kinds kinds row ≡ false
 unfolding has_any
 none-of-kinds kinds e (first {x = r} {xs = rs} f) = rw f (or_fst _ (has_any kinds rs) e)

@@ -154,7 +154,7 @@ pub put-all-in-order :
     InOrder 0 (put_all cs rs)
 unfolding put_all
 put-all-in-order [] all_none o = o
-put-all-in-order (c ∷ cs) (all_more e a) o = put-all-in-order cs a (put-in-order c (in-range-above c e) e o)
+put-all-in-order {rs = rs} (c ∷ cs) (all_more e a) o = put-all-in-order {rs = put c rs} cs a (put-in-order c (in-range-above c e) e o)
 
 -- which units run once one is put in
 pub put-runs : (u : ℕ) (c : RunningUnit) (rs : List RunningUnit) → runs u (put c rs) ≡ (eqb c.unit u || runs u rs)
@@ -274,7 +274,7 @@ put-stays {x} c (later {x = r} {xs = rs} m) n =
     put-cases c r rs (Among x) (λ below. later (later m)) (λ same. later m) (λ above. later (put-stays c m n))
 
 -- each is above the bound
-above-bound : {b : ℕ} {x : RunningUnit} {rs : List RunningUnit} → Among x rs → RisingFrom b (map unit rs) → b < x.unit
+above-bound : {x : RunningUnit} {b : ℕ} {rs : List RunningUnit} → Among x rs → RisingFrom b (map unit rs) → b < x.unit
 above-bound (first e) (next h o) = rw e h
 above-bound (later m) (next h o) = omega (arith, h, above-bound m o)
 
@@ -309,13 +309,13 @@ pub put-all-stays :
     Among x (put_all cs rs)
 unfolding put_all among
 put-all-stays [] m e = m
-put-all-stays {x} (c ∷ cs) m e =
+put-all-stays {x = x} {rs = rs} (c ∷ cs) m e =
     let here = eqb x.unit c.unit in
     let there = among x.unit (map unit cs) in
-    put-all-stays cs (put-stays c m (eqb-false x.unit c.unit (or_fst here there e))) (or_snd here there e)
+    put-all-stays {rs = put c rs} cs (put-stays c m (eqb-false x.unit c.unit (or_fst here there e))) (or_snd here there e)
 
 pub put-all-there :
-    {b : ℕ} {c : RunningUnit} {cs : List RunningUnit} (rs : List RunningUnit) → Among c cs → RisingFrom b (map unit cs) →
+    {c : RunningUnit} {b : ℕ} {cs : List RunningUnit} (rs : List RunningUnit) → Among c cs → RisingFrom b (map unit cs) →
     Among c (put_all cs rs)
 unfolding put_all
 put-all-there rs (first {x} {xs} e) (next h o) =

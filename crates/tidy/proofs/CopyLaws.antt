@@ -5,7 +5,7 @@ use mathlib.Core.Bool.{Bool, true, false, cond}
 use mathlib.Core.List.{List, [], ◌∷◌, ◌++◌, append_assoc, append-nil}
 use native.Mathlib.Omega.{arith}
 use lib.Dec.{eqb}
-use lib.ListN.{length, get_or, length-append}
+use lib.ListN.{length, get_or, set, drop, length-append}
 use lib.Seq.{get_or-append-add}
 use Rattle.base.specs.Search.{All, all_none, all_more}
 use Rattle.base.specs.Text.{together}
@@ -151,6 +151,12 @@ has_end s e = simp e
 pub lacks-end : (s : List ℕ) → eqb (get_or s (length s - 1) 0) LF ≡ false → last_end s ≡ CR ∷ LF ∷ []
 unfolding last_end
 lacks-end s e = simp e
+
+-- a line end put at the start of a buffer with room for it
+pub end-put : (out : List ℕ) → 2 ≤ length out → set (set out 0 CR) 1 LF ≡ (CR ∷ LF ∷ []) ++ drop 2 out
+end-put [] h = absurd (omega arith)
+end-put (a ∷ []) h = absurd (omega arith)
+end-put (a ∷ b ∷ out) h = refl
 
 not-line-end : (l : List ℕ) (i : ℕ) → All (λ (b : ℕ). eqb b LF ≡ false) l → eqb (get_or l i 0) LF ≡ false
 not-line-end [] i a = refl

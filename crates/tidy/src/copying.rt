@@ -9,6 +9,8 @@ use tables::Refusal;
 
 const LF: u8 = 0x0A;
 
+const CR: u8 = 0x0D;
+
 const DQUOTE: u8 = 0x22;
 
 // The buffer is shorter than the tidy file.
@@ -132,10 +134,9 @@ fn write_last_end(s: &[u8], out: &mut [u8]) -> usize
     if ends_in_line_end(s) {
         return 0;
     }
-    let end = b"\r\n";
-    let length = end.len();
-    out[..length].copy_from_slice(end);
-    length
+    out[0] = CR;
+    out[1] = LF;
+    2
 }
 
 fn ends_in_line_end(s: &[u8]) -> bool

@@ -1,0 +1,7 @@
+-- The constant is the definition's. Assumes nothing.
+use native.Mathlib.Omega.{arith}
+use Rattle.tidy.proofs.HowLong.{longest-constraint-is}
+use Rattle.tidy.proofs.longest.longest_constraint.Goals as goal
+
+pub returns : goal.returns
+returns c = omega (arith, longest-constraint-is)

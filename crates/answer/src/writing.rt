@@ -33,10 +33,17 @@ fn write_header(out: &mut [u8]) -> usize
     requires { length answer_header ≤ length out.old }
     ensures { Wrote answer_header result out.old out.new }
 {
-    let header = b"unit,supplier,verdict,left,schedule,kind,cost\r\n";
-    let length = header.len();
-    out[..length].copy_from_slice(header);
-    length
+    put(b"unit,supplier,verdict,left,schedule,kind,cost\r\n", out)
+}
+
+// Puts a text at the start of a buffer that has room for it, and answers its length.
+fn put(text: &[u8], out: &mut [u8]) -> usize
+    requires { length text.now ≤ length out.old }
+    ensures { Wrote text.now result out.old out.new }
+{
+    let n = text.len();
+    out[..n].copy_from_slice(text);
+    n
 }
 
 fn write_rows(cells: &[u64], n: usize, out: &mut [u8]) -> usize

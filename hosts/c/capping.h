@@ -1,5 +1,5 @@
-/* The offer capping engine as C programs call it. Link with target/staticlib/libcapping.a, which `rt staticlib capping`
- * writes, for x86-64 Linux. C++ programs may include this too.
+/* The offer capping engine as C programs call it. Link with crates/capping/out/libcapping.a, which `rt lib` writes in
+ * crates/capping, for x86-64 Linux. C++ programs may include this too.
  *
  * Holds for each call: a run of bytes or amounts is a pointer, then how many there are, and no pointer may be NULL, not even
  * with length 0. Everything belongs to the caller: what is const is only read, what isn't is written during the call, and

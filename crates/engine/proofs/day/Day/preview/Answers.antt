@@ -1,0 +1,22 @@
+-- Decided first, as a study is, and then the unit's row; demand 3 from there. Assumes nothing.
+use mathlib.Core.Path.{◌∙◌, ap}
+use Rattle.engine.specs.promises.Answering.{looked_at}
+use Rattle.engine.proofs.PreviewLaws.{preview-refused, preview-answered, previews-right}
+use Rattle.engine.proofs.day.Day.preview.Goals as goal
+
+pub row_for-requires : goal.row_for-requires
+row_for-requires c = (c.decide-deciding.ensures.decides _ _ c.in-Rows.is).ready.there
+
+pub returns-in-Refused : goal.returns-in-Refused
+returns-in-Refused c =
+    let refuses = c.decide-deciding.ensures.refuses _ c.in-Refused.is in
+    let previews = preview-refused _ _ _ _ _ refuses c.looked_at.ensures in
+    record { previews = previews; previews_right = previews-right _ _ _ _ previews }
+
+pub returns-in-Rows : goal.returns-in-Rows
+returns-in-Rows c =
+    let matched = c in
+    let laid = matched.decide-deciding.ensures.decides _ _ matched.in-Rows.is in
+    let answered = c.looked_at-in-Rows.ensures ∙ ap (looked_at _) c.row_for.ensures in
+    let previews = preview-answered _ _ _ _ laid.accepted _ laid.laid answered in
+    record { previews = previews; previews_right = previews-right _ _ _ _ previews }

@@ -1,0 +1,30 @@
+-- A release: refused with 24, then with 23, else done. Assumes nothing.
+use mathlib.Core.Path.{sym, ◌∙◌}
+use native.Mathlib.Omega.{arith}
+use Rattle.engine.proofs.FormingLaws.{few-units}
+use Rattle.engine.proofs.ReleaseLaws.{releases, refuses-23, refuses-24}
+use Rattle.engine.proofs.day.Day.release.Goals as goal
+
+pub place_of-at-requires : goal.place_of-at-requires
+place_of-at-requires c = few-units _ (sym c.is_formed.ensures ∙ c.if-is_formed.true)
+
+pub without_place-requires : goal.without_place-requires
+without_place-requires c =
+    let tested = c in
+    record { count_le_most_running = few-units _ (sym tested.is_formed.ensures ∙ tested.if-is_formed.true); at_lt_count = omega arith }
+
+pub returns-then-at-units : goal.returns-then-at-units
+returns-then-at-units c =
+    let placed = c in
+    let tested = placed in
+    releases _ _ _ placed.place_of-at.result (sym tested.is_formed.ensures ∙ tested.if-is_formed.true) placed.place_of-at.ensures (omega arith) c.without_place.ensures
+
+pub returns-else-at-units : goal.returns-else-at-units
+returns-else-at-units c =
+    let placed = c in
+    let tested = placed in
+    refuses-23 _ _ placed.place_of-at.result _ (sym tested.is_formed.ensures ∙ tested.if-is_formed.true) placed.place_of-at.ensures (omega arith) c.refused.ensures
+
+pub returns-else-is_formed : goal.returns-else-is_formed
+returns-else-is_formed c =
+    refuses-24 _ _ _ (sym c.is_formed.ensures ∙ c.if-is_formed.false) c.refused-else-is_formed.ensures

@@ -1,0 +1,8 @@
+-- A file tidied by its number, told by its numbers. Assumes nothing.
+use Rattle.capping.proofs.TidyLaws.{tidy-told}
+use Rattle.capping.proofs.tidying.capping_tidy.Goals as goal
+
+pub returns : goal.returns
+returns c =
+    let told = c in
+    tidy-told told.tidy_numbered-tidied.ensures told.told_by_tidy.ensures c.report_on.ensures c.tidy_count.ensures

@@ -153,5 +153,5 @@ module _ (ps : List ParentRow) (run : List ℕ) (laid : ParentsIn ps run) (rows 
   headed-grouped [] = refl
   headed-grouped (r ∷ rs) =
       let here : in_place (head_from (parent_in run) rows) r ≡ in_place (head ps) r =
-          rw (all, same_head (parent_in run) (parent_of ps) laid.held (length ps) r.supplier) refl in
+      rw (all, same_head (parent_in run) (parent_of ps) laid.held (length ps) r.supplier) refl in
       ap (λ (s : SupplyRow). s ∷ headed run rows rs) here ∙ ap (λ (s : List SupplyRow). in_place (head ps) r ∷ s) (headed-grouped rs)

@@ -11,28 +11,7 @@ use borrow.Author.Tests.{eqb-true, ne_eqb}
 use Rattle.base.proofs.Searches.{joined, joined-none, joined-more, one-le}
 use Rattle.base.proofs.Tests.{either, false-true}
 use Rattle.base.specs.promises.Counting.{one}
-use Rattle.csv_text.specs.Records.{
-  State,
-  begin,
-  plain,
-  quoted,
-  closing,
-  ended,
-  broken,
-  next,
-  regular,
-  final,
-  textdata,
-  Rest,
-  end,
-  byte,
-  comma,
-  crlf,
-  grown,
-  rest,
-  rfc4180,
-  records,
-}
+use Rattle.csv_text.specs.Records.{State, begin, plain, quoted, closing, ended, broken, next, regular, final, textdata, Rest, byte, comma, crlf, grown, rest, rfc4180, records}
 use Rattle.csv_text.proofs.Steps.{broken-refuses}
 use Rattle.csv_text.specs.declared.scanning.Shape.TheVariants.{Regular}
 use Rattle.csv_text.specs.promises.Scan.{Tally, start, over, inside_field, separates, at_end, step, tally, finished, scan_answer, fitting, scanned}

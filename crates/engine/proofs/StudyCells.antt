@@ -13,7 +13,7 @@ use Rattle.tables.specs.declared.files.Reading.{Reading}
 use Rattle.tables.specs.declared.files.Reading.TheVariants.{Rows as RowsRead, Refused as NotRead}
 use Rattle.tables.specs.declared.files.Refusal.{Refusal}
 use Rattle.links.specs.promises.Links.{RowsLinked}
-use Rattle.supply.specs.Supply.{most_units, units, suppliers}
+use Rattle.supply.specs.Supply.{most_units, suppliers}
 use Rattle.supply.proofs.UnitLaws.{units-rising}
 use Rattle.market.specs.Parties.{party, parties}
 use Rattle.checking.specs.promises.Alone.{SchedulesChecked}

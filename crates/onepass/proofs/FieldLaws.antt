@@ -1,6 +1,6 @@
 -- Laws of a field at a place of a file: its digits one after the other, its cell by the form, its quotes. Assumes nothing.
 use Rattle.std.proofs.Common.{◌≡◌, ℕ, suc, ◌+◌, ◌-◌, ◌*◌, ◌%◌, ◌^◌, ◌<◌, ◌≤◌, Bool, true, false, eqb, List, [], ◌∷◌, ◌++◌, length, get_or, drop, sym, refl, ap, ◌∙◌, pow-suc, arith, length-append, get_or-drop, eq-eqb, ne_eqb, eqb-true, le-leb}
-use mathlib.Core.Option.{Option, none, some}
+use mathlib.Core.Option.{Option, some}
 use native.Mathlib.Nat.{pow-le-pow_right}
 use Rattle.base.specs.Text.{same}
 use Rattle.base.proofs.Lists.{drop-next}

@@ -49,9 +49,10 @@ loop-left-smaller c = rw c.link_at-left-in-loop-left.ensures (walk-less _ _ _ _ 
 pub loop-left-preserved : goal.loop-left-preserved
 loop-left-preserved c = rw c.link_at-left-in-loop-left.ensures (let offered = c.offers.ensures in
     walk-next _ _ _ _ _ _ c.loop-left.invariant c.loop-left-test.true _
-    (elim c.if-offers.branch
-    [ then-offers w ↦ w.best-is ∙ weighed-own _ _ _ _ _ _ _ _ offered w.if-offers.true w.shown.ensures w.kept-best.ensures
-    | else-offers w ↦ w.best-is ∙ weighed-not _ _ _ _ _ _ _ _ offered w.if-offers.false ]))
+    (elim c.if-offers.branch [
+      | then-offers w ↦ w.best-is ∙ weighed-own _ _ _ _ _ _ _ _ offered w.if-offers.true w.shown.ensures w.kept-best.ensures
+      | else-offers w ↦ w.best-is ∙ weighed-not _ _ _ _ _ _ _ _ offered w.if-offers.false
+    ]))
 
 pub returns : goal.returns
 unfolding choice candidates eligible_schedule

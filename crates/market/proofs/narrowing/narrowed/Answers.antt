@@ -4,7 +4,6 @@ use native.Mathlib.Omega.{arith}
 use Rattle.market.specs.promises.Parts.{in_part}
 use Rattle.offers.proofs.CellLaws.{row-cells}
 use Rattle.market.proofs.NarrowingLaws.{narrows-not, narrows-low, narrows-high}
-use borrow.Author.Tests.{not-true, not-false}
 use Rattle.market.proofs.narrowing.narrowed.Goals as goal
 
 pub returns-then-n-row : goal.returns-then-n-row

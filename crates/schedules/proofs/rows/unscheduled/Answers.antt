@@ -2,7 +2,6 @@
 use Rattle.std.proofs.lemmas.Bool.{not_from_true, not_from_false}
 use mathlib.Core.Path.{ap}
 use mathlib.Core.Bool.{not}
-use Rattle.schedules.specs.promises.Answers.{has_row}
 use Rattle.schedules.specs.Schedules.{unscheduled}
 use Rattle.links.proofs.LinkLaws.{rows-by-unit}
 use Rattle.schedules.proofs.ScheduleLaws.{finding-none, finding-here, finding-next, finding-over}

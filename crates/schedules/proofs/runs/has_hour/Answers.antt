@@ -1,6 +1,5 @@
 -- Whether a schedule has a row for an hour, along the rows of its key. Assumes nothing.
 use mathlib.Core.Path.{sym, ◌∙◌}
-use Rattle.schedules.specs.promises.Steps.{is_at}
 use Rattle.links.proofs.LinkLaws.{along-here, along-less, along-next, along-over}
 use Rattle.schedules.proofs.SearchLaws.{rows-any}
 use Rattle.schedules.proofs.RunLaws.{along-schedule}

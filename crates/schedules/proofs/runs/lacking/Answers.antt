@@ -1,5 +1,4 @@
 -- The lowest unit with a schedule that lacks an hour. Assumes nothing.
-use Rattle.schedules.specs.promises.Steps.{lacks}
 use Rattle.schedules.specs.Runs.{lacking}
 use Rattle.schedules.proofs.ScheduleLaws.{finding-none, finding-here, finding-next, finding-over}
 use native.Mathlib.Omega.{arith}

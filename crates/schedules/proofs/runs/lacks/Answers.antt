@@ -1,6 +1,5 @@
 -- Whether a schedule of a unit lacks an hour, by the steps of each row. Assumes nothing.
 use mathlib.Core.Path.{sym, ◌∙◌}
-use Rattle.schedules.specs.promises.Steps.{stops}
 use Rattle.schedules.proofs.SearchLaws.{along-unit, rows-any}
 use Rattle.links.proofs.LinkLaws.{rows-by-unit, along-here, along-less, along-next, along-over}
 use Rattle.schedules.proofs.RunLaws.{lacks-by-stops, stops-unit, row_has}

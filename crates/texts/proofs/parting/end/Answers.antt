@@ -1,8 +1,6 @@
 -- A search of the whole text. Assumes nothing.
 use Rattle.std.proofs.Common.{◌≡◌, length, arith}
-use Rattle.std.proofs.Math.ListN.{drop}
 use borrow.Author.Tests.{eq-eqb, ne_eqb}
-use Rattle.texts.specs.promises.Parting.{before}
 use Rattle.texts.proofs.PartingLaws.{before-here, before-on, before-end}
 use Rattle.texts.proofs.parting.end.Goals as goal
 

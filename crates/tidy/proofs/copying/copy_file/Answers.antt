@@ -1,6 +1,6 @@
 -- 30 where the copy doesn't fit, else the copy. Assumes nothing.
 use mathlib.Core.Path.{sym, ◌∙◌}
-use borrow.Author.Tests.{leb-true, not-true, not-false}
+use borrow.Author.Tests.{leb-true}
 use Rattle.tidy.proofs.FileLaws.{short-buffer, text-written}
 use Rattle.tidy.proofs.copying.copy_file.Goals as goal
 

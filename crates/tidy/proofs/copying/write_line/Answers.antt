@@ -35,10 +35,11 @@ pub returns-then-b-eq-LF : goal.returns-then-b-eq-LF
 returns-then-b-eq-LF c =
     let now = c in
     line-written
-    (elim c.if-b-ne-DQUOTE.branch
-    [ then-b-ne-DQUOTE w ↦
-        rw (w.out-is, w.at-is) (byte-written _ _ now.requires (omega arith) (λ e. omega (arith, w.if-b-ne-DQUOTE.true)) now.loop-i.invariant.0)
-    | else-b-ne-DQUOTE w ↦ rw (w.out-is, w.at-is) (quote-passed _ _ now.requires (omega arith) w.if-b-ne-DQUOTE.false now.loop-i.invariant.0) ])
+    (elim c.if-b-ne-DQUOTE.branch [
+      | then-b-ne-DQUOTE w ↦
+          rw (w.out-is, w.at-is) (byte-written _ _ now.requires (omega arith) (λ e. omega (arith, w.if-b-ne-DQUOTE.true)) now.loop-i.invariant.0)
+      | else-b-ne-DQUOTE w ↦ rw (w.out-is, w.at-is) (quote-passed _ _ now.requires (omega arith) w.if-b-ne-DQUOTE.false now.loop-i.invariant.0)
+    ])
     (seeking-found now.loop-i.invariant.1 (omega arith) (omega (arith, c.if-b-eq-LF.true)))
 
 pub loop-i-smaller : goal.loop-i-smaller
@@ -47,11 +48,12 @@ loop-i-smaller c = omega arith
 pub loop-i-preserved : goal.loop-i-preserved
 loop-i-preserved c =
     let now = c in (
-      elim c.if-b-ne-DQUOTE.branch
-          [ then-b-ne-DQUOTE w ↦
-              rw (w.out-is, w.at-is) (byte-written _ _ now.requires (omega arith) (λ e. omega (arith, w.if-b-ne-DQUOTE.true)) now.loop-i.invariant.0)
-          | else-b-ne-DQUOTE w ↦
-              rw (w.out-is, w.at-is) (quote-passed _ _ now.requires (omega arith) w.if-b-ne-DQUOTE.false now.loop-i.invariant.0) ],
+      elim c.if-b-ne-DQUOTE.branch [
+        | then-b-ne-DQUOTE w ↦
+            rw (w.out-is, w.at-is) (byte-written _ _ now.requires (omega arith) (λ e. omega (arith, w.if-b-ne-DQUOTE.true)) now.loop-i.invariant.0)
+        | else-b-ne-DQUOTE w ↦
+            rw (w.out-is, w.at-is) (quote-passed _ _ now.requires (omega arith) w.if-b-ne-DQUOTE.false now.loop-i.invariant.0)
+      ],
       seeking-next now.loop-i.invariant.1 (omega arith) c.if-b-eq-LF.false,
     )
 

@@ -1,7 +1,6 @@
 -- The test with one amount more. Assumes nothing.
 use mathlib.Core.Path.{sym, ◌∙◌}
 use native.Mathlib.Omega.{arith}
-use borrow.Author.Tests.{not-true, not-false}
 use Rattle.pivotal.proofs.FeedingLaws.{taken-within, other-small, fed-taken, fed-past}
 use Rattle.pivotal.proofs.feeding.FedTest.feed.Goals as goal
 

@@ -77,13 +77,7 @@ fn run(rt: &impl Print, cells: &[u64], n: usize, room: usize) -> io::Result<()>
 }
 
 // Writes into the first `room` bytes of `out`, and prints those and the bytes behind them.
-fn show(
-    rt: &impl Print,
-    cells: &[u64],
-    n: usize,
-    room: usize,
-    out: &mut [u8],
-) -> io::Result<()>
+fn show(rt: &impl Print, cells: &[u64], n: usize, room: usize, out: &mut [u8]) -> io::Result<()>
     requires n_in_bounds { n * 7 ≤ length cells.now }
     requires n_bound { n ≤ 64 }
     requires all { All Lettered (answer_rows n cells.now) }

@@ -42,12 +42,7 @@ fn with_constraint(rt: &impl Print, text: &[u8], line: &[u8]) -> io::Result<()> 
     with_supply(rt, text, line, &bytes[0..count])
 }
 
-fn with_supply(
-    rt: &impl Print,
-    text: &[u8],
-    line: &[u8],
-    constraint: &[u8],
-) -> io::Result<()> {
+fn with_supply(rt: &impl Print, text: &[u8], line: &[u8], constraint: &[u8]) -> io::Result<()> {
     let mut bytes = [0u8; FILE];
     let count = build(File::Supply, text, line, &mut bytes);
     if count == FILE {

@@ -9,12 +9,7 @@ use tables::{Reading, Refusal};
 use test_cases::{print, print_three};
 
 // Files three files and prints the refusal, or how many rows and units there are.
-pub fn case(
-    rt: &impl Print,
-    constraint: &[u8],
-    supply: &[u8],
-    schedules: &[u8],
-) -> io::Result<()> {
+pub fn case(rt: &impl Print, constraint: &[u8], supply: &[u8], schedules: &[u8]) -> io::Result<()> {
     let mut cells = [0u64; SUPPLY_CELLS];
     let mut units = [0u64; UNITS_LENGTH];
     let check = check_market(constraint, supply, &mut cells, &mut units);
@@ -25,12 +20,7 @@ pub fn case(
 }
 
 // The same of schedules, beside a market whose units are listed.
-fn with_market(
-    rt: &impl Print,
-    market: Market,
-    schedules: &[u8],
-    units: &[u64],
-) -> io::Result<()>
+fn with_market(rt: &impl Print, market: Market, schedules: &[u8], units: &[u64]) -> io::Result<()>
     requires { MarketFits market units.now }
 {
     let mut cells = [0u64; SCHEDULE_CELLS];

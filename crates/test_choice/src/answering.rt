@@ -53,13 +53,7 @@ fn running(
     }
 }
 
-fn ask(
-    rt: &impl Print,
-    hour: u64,
-    is_exposed: bool,
-    day: DayKind,
-    rows: &[u8],
-) -> io::Result<()> {
+fn ask(rt: &impl Print, hour: u64, is_exposed: bool, day: DayKind, rows: &[u8]) -> io::Result<()> {
     let mut schedules = [0u8; FILE];
     let count = put_file(File::Schedules, rows, &mut schedules);
     if count == FILE {

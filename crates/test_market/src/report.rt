@@ -31,13 +31,7 @@ pub fn case(rt: &impl Print, relief: u64, cutoff: u64, supply: &[u8]) -> io::Res
     print(rt, b"\n")
 }
 
-fn print_market(
-    rt: &impl Print,
-    cells: &[u64],
-    n: usize,
-    cutoff: u64,
-    need: u64,
-) -> io::Result<()>
+fn print_market(rt: &impl Print, cells: &[u64], n: usize, cutoff: u64, need: u64) -> io::Result<()>
     requires { SupplyCells n cells.now }
 {
     let supply = market::eligible_supply(cells, n, cutoff);

@@ -17,4 +17,4 @@ room-enough Curves n l = omega arith
 room-enough Parents n l = omega arith
 
 pub read-reading-requires : goal.read-reading-requires
-read-reading-requires c c' = room-enough _ _ (omega arith)
+read-reading-requires g c = room-enough _ _ (omega arith)

@@ -4,14 +4,16 @@
 #![tactic(auto)]
 
 ghost use Rattle.std.specs.Prelude.{◌≢◌, ◌≤◌, length};
-ghost use Rattle.io.specs.Counts.{IsPrefixLen};
+ghost use Rattle.std.specs.Io.{ReadsAtMost};
 ghost use Rattle.checking.specs.Files.{files};
 ghost use Rattle.engine.specs.Studying.{study_told, study_count};
 ghost use Rattle.longest.specs.Longest.{longest};
 ghost use Rattle.study.specs.FreshStudy.{StudiesFresh};
 
 use engine::{Day, Study};
-use libc::STDOUT_FILENO;
+use std::io::Read;
+use std::rt::Files;
+use std::{fs, io};
 use tables::Refusal;
 
 // The most bytes that a file may have: 64 KiB.
@@ -20,66 +22,88 @@ const MOST: usize = 65536;
 // Room for one more, by which a file that is too long is known.
 const ROOM: usize = MOST + 1;
 
-fn main() {
+fn main(rt: HostRuntime) -> io::Result<()> {
     let mut constraint = [0u8; ROOM];
     let mut supply = [0u8; ROOM];
     let mut schedules = [0u8; ROOM];
     let mut curves = [0u8; ROOM];
     let mut parents = [0u8; ROOM];
     run(
+        &rt,
         &mut constraint,
         &mut supply,
         &mut schedules,
         &mut curves,
         &mut parents,
-    );
+    )
 }
 
 // Reads the files into the room lent, and studies them; one that is too long comes before every refusal.
 fn run(
+    rt: &(impl Files + Print),
     constraint: &mut [u8],
     supply: &mut [u8],
     schedules: &mut [u8],
     curves: &mut [u8],
     parents: &mut [u8],
-) {
-    let c = read(b"constraint.csv", constraint);
-    let s = read(b"supply.csv", supply);
-    let t = read(b"schedules.csv", schedules);
-    let k = read(b"curves.csv", curves);
-    let p = read(b"parents.csv", parents);
+) -> io::Result<()> {
+    let c = read(rt, "constraint.csv", constraint)?;
+    let s = read(rt, "supply.csv", supply)?;
+    let t = read(rt, "schedules.csv", schedules)?;
+    let k = read(rt, "curves.csv", curves)?;
+    let p = read(rt, "parents.csv", parents)?;
     if MOST < c || MOST < s || MOST < t || MOST < k || MOST < p {
-        print(b"too long\r\n");
-        return;
+        return print(rt, b"too long\r\n");
     }
     study(
+        rt,
         &constraint[0..c],
         &supply[0..s],
         &schedules[0..t],
         &curves[0..k],
         &parents[0..p],
-    );
+    )
 }
 
 // Reads the file of this name to the start of the room, until it is full, and answers how many bytes
 // it read: none of a file that can't be opened.
-fn read(name: &[u8], room: &mut [u8]) -> usize
-    ensures { IsPrefixLen result room.new }
+fn read(rt: &impl Files, name: &str, room: &mut [u8]) -> io::Result<usize>
+    ensures { ReadsAtMost result room.new }
 {
-    let file = os::open_read(name);
-    if file < 0 {
-        return 0;
+    match fs::open(rt, name) {
+        Ok(mut file) => read_full(&mut file, room),
+        Err(_) => Ok(0),
     }
-    let count = io::read_full(file, room);
-    libc::close(file);
-    count
+}
+
+// Reads a file to the start of the room, until it is full or the file ends, and answers how many bytes
+// it read.
+fn read_full(file: &mut impl Read, room: &mut [u8]) -> io::Result<usize>
+    ensures { ReadsAtMost result room.new }
+{
+    let mut done = 0;
+    while done < room.len() {
+        let n = file.read(&mut room[done..])?;
+        if n == 0 {
+            break;
+        }
+        done += n;
+    }
+    Ok(done)
 }
 
 // Studies the files with room for the longest answer, and prints the answer file or the refusal.
-fn study(constraint: &[u8], supply: &[u8], schedules: &[u8], curves: &[u8], parents: &[u8]) {
+fn study(
+    rt: &impl Print,
+    constraint: &[u8],
+    supply: &[u8],
+    schedules: &[u8],
+    curves: &[u8],
+    parents: &[u8],
+) -> io::Result<()> {
     let mut room = [0u8; longest::LONGEST];
     let answer = study_in_room(constraint, supply, schedules, curves, parents, &mut room);
-    print_study(answer, &room);
+    print_study(rt, answer, &room)
 }
 
 // Studies the files with a fresh day. The room holds the longest answer, so 10 is never met.
@@ -101,24 +125,19 @@ fn study_in_room(
 }
 
 // Prints the answer file, which stands at the start of the room, or the refusal.
-fn print_study(answer: Study, room: &[u8])
+fn print_study(rt: &impl Print, answer: Study, room: &[u8]) -> io::Result<()>
     requires { study_count answer ≤ length room.now }
 {
     match answer {
-        Study::Written(count) => print(&room[0..count]),
-        Study::Refused(refusal) => print_refusal(refusal),
+        Study::Written(count) => print(rt, &room[0..count]),
+        Study::Refused(refusal) => print_refusal(rt, refusal),
     }
 }
 
-fn print_refusal(refusal: Refusal) {
-    io::print_decimal(STDOUT_FILENO, refusal.number);
-    print(b",");
-    io::print_decimal(STDOUT_FILENO, refusal.file);
-    print(b",");
-    io::print_decimal(STDOUT_FILENO, refusal.place);
-    print(b"\r\n");
+fn print_refusal(rt: &impl Print, refusal: Refusal) -> io::Result<()> {
+    print!(rt; "{},{},{}\r\n", refusal.number, refusal.file, refusal.place)
 }
 
-fn print(text: &[u8]) {
-    io::write_all(STDOUT_FILENO, text);
+fn print(rt: &impl Print, text: &[u8]) -> io::Result<()> {
+    rt.write_all(text)
 }

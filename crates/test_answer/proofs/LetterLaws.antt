@@ -1,7 +1,6 @@
 -- Rows whose letters are bytes, from a place on. Assumes nothing.
 use Prim.Native.Nat.{ℕ, ◌+◌, ◌-◌, ◌≤◌, ◌<◌}
-use mathlib.Core.Path.{◌≡◌, refl, sym}
-use mathlib.Core.Bool.{Bool, true, false, not}
+use mathlib.Core.Path.{◌≡◌}
 use mathlib.Core.List.{List}
 use native.Mathlib.Omega.{arith}
 use lib.ListN.{drop}
@@ -10,10 +9,6 @@ use Rattle.base.specs.Search.{All, all_none, all_more}
 use Rattle.cells.specs.promises.Views.{answer_rows, answer_at}
 use Rattle.cells.specs.promises.Letters.{Lettered}
 use Rattle.cells.proofs.RowViews.{answer-next, answer-length}
-
-pub not-false : (t : Bool) → not t ≡ false → t ≡ true
-not-false true e = refl
-not-false false e = sym e
 
 module _ (n : ℕ) (cs : List ℕ) where
   pub all-from-end : All Lettered (drop n (answer_rows n cs))

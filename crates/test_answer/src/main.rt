@@ -9,8 +9,8 @@ ghost use Rattle.cells.specs.promises.Views.{answer_rows};
 
 use answer::CELLS;
 use cells::answer::WIDTH;
-use libc::STDOUT_FILENO;
 use longest::LONGEST;
+use std::io;
 
 mod letters;
 mod rows;
@@ -20,37 +20,37 @@ const BEHIND: usize = 3;
 
 const BUFFER: usize = LONGEST + BEHIND;
 
-fn main() {
-    no_rows();
-    starred();
-    fields();
-    longest_answer();
+fn main(rt: HostRuntime) -> io::Result<()> {
+    no_rows(&rt)?;
+    starred(&rt)?;
+    fields(&rt)?;
+    longest_answer(&rt)
 }
 
-fn no_rows() {
-    run(&[], 0, 47);
-    run(&[], 0, 50);
-    run(&[], 0, 46);
+fn no_rows(rt: &impl Print) -> io::Result<()> {
+    run(rt, &[], 0, 47)?;
+    run(rt, &[], 0, 50)?;
+    run(rt, &[], 0, 46)
 }
 
-fn starred() {
-    run(&rows::STARRED, 4, 138);
-    run(&rows::STARRED, 4, 145);
-    run(&rows::STARRED, 4, 137);
-    run(&rows::STARRED, 1, 138);
+fn starred(rt: &impl Print) -> io::Result<()> {
+    run(rt, &rows::STARRED, 4, 138)?;
+    run(rt, &rows::STARRED, 4, 145)?;
+    run(rt, &rows::STARRED, 4, 137)?;
+    run(rt, &rows::STARRED, 1, 138)
 }
 
-fn fields() {
-    run(&rows::NARROWEST, 1, 70);
-    run(&rows::LARGEST, 1, 160);
-    run(&rows::NO_LETTER, 1, 160);
+fn fields(rt: &impl Print) -> io::Result<()> {
+    run(rt, &rows::NARROWEST, 1, 70)?;
+    run(rt, &rows::LARGEST, 1, 160)?;
+    run(rt, &rows::NO_LETTER, 1, 160)
 }
 
-fn longest_answer() {
+fn longest_answer(rt: &impl Print) -> io::Result<()> {
     let cells = widest();
-    run(&cells, 64, LONGEST);
-    run(&cells, 63, LONGEST);
-    run(&cells, 64, LONGEST - 1);
+    run(rt, &cells, 64, LONGEST)?;
+    run(rt, &cells, 63, LONGEST)?;
+    run(rt, &cells, 64, LONGEST - 1)
 }
 
 // As many of the widest rows as an answer can have.
@@ -64,41 +64,37 @@ fn widest() -> [u64; CELLS] {
     cells
 }
 
-fn run(cells: &[u64], n: usize, room: usize)
+fn run(rt: &impl Print, cells: &[u64], n: usize, room: usize) -> io::Result<()>
     requires n_in_bounds { n * 7 ≤ length cells.now }
     requires n_bound { n ≤ 64 }
     requires room_bound { room ≤ LONGEST }
 {
     if !letters::lettered(cells, n) {
-        print(b"no letters\n");
-        return;
+        return print(rt, b"no letters\n");
     }
     let mut buffer = [b'.'; BUFFER];
-    show(cells, n, room, &mut buffer);
+    show(rt, cells, n, room, &mut buffer)
 }
 
 // Writes into the first `room` bytes of `out`, and prints those and the bytes behind them.
-fn show(cells: &[u64], n: usize, room: usize, out: &mut [u8])
+fn show(rt: &impl Print, cells: &[u64], n: usize, room: usize, out: &mut [u8]) -> io::Result<()>
     requires n_in_bounds { n * 7 ≤ length cells.now }
     requires n_bound { n ≤ 64 }
     requires all { All Lettered (answer_rows n cells.now) }
     requires room_in_bounds { room + 3 ≤ length out.old }
 {
     let needed = answer::length(cells, n);
-    io::print_decimal(STDOUT_FILENO, needed as u64);
+    print!(rt; "{needed}")?;
     if room < needed {
-        print(b" too short\n");
-        return;
+        return print(rt, b" too short\n");
     }
     let count = answer::write(cells, n, &mut out[0..room]);
-    print(b" ");
-    io::print_decimal(STDOUT_FILENO, count as u64);
-    print(b"\n");
+    println!(rt; " {count}")?;
     let end = room + BEHIND;
-    print(&out[0..end]);
-    print(b"\n");
+    print(rt, &out[0..end])?;
+    print(rt, b"\n")
 }
 
-fn print(text: &[u8]) {
-    io::write_all(STDOUT_FILENO, text);
+fn print(rt: &impl Print, text: &[u8]) -> io::Result<()> {
+    rt.write_all(text)
 }

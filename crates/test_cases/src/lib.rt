@@ -1,5 +1,5 @@
 // What programs of cases share: which lines are cases, the bytes that a text with escapes stands for,
-// a file's header and rows, and printing. A line begins a case, unless it is empty, begins with `#`, or
+// a file's header and rows, reading and printing. A line begins a case, unless it is empty, begins with `#`, or
 // begins with a blank and so goes on with the case above it. In a case `\r`, `\n`, `\t`, `\s` (a space),
 // `\\` and `\x_hH` stand for one byte.
 //
@@ -12,8 +12,10 @@ mod escapes;
 mod files;
 mod lines;
 mod printing;
+mod reading;
 
 pub use escapes::put;
 pub use files::{put_file, put_header, put_many};
 pub use lines::{BLANK, LF, is_case};
 pub use printing::{print, print_three, unreadable};
+pub use reading::read_input;

@@ -1,21 +1,16 @@
 // What a program of cases prints. Assumes nothing.
-use libc::STDOUT_FILENO;
+use std::io;
 
-pub fn print(text: &[u8]) {
-    io::write_all(STDOUT_FILENO, text);
+pub fn print(rt: &impl Print, text: &[u8]) -> io::Result<()> {
+    rt.write_all(text)
 }
 
 // Prints three numbers and ends the line.
-pub fn print_three(a: u64, b: u64, c: u64) {
-    io::print_decimal(STDOUT_FILENO, a);
-    print(b",");
-    io::print_decimal(STDOUT_FILENO, b);
-    print(b",");
-    io::print_decimal(STDOUT_FILENO, c);
-    print(b"\n");
+pub fn print_three(rt: &impl Print, a: u64, b: u64, c: u64) -> io::Result<()> {
+    println!(rt; "{a},{b},{c}")
 }
 
 // The line of a case that can't be read.
-pub fn unreadable() {
-    print(b"unreadable case\n");
+pub fn unreadable(rt: &impl Print) -> io::Result<()> {
+    println!(rt; "unreadable case")
 }

@@ -3,6 +3,7 @@
 ghost use Rattle.std.specs.Prelude.{◌≤◌, length};
 
 use crate::report::case;
+use std::io;
 use tables::File;
 use test_cases::{LF, put, put_header, put_many, unreadable};
 use texts::{after, behind, first, same_text};
@@ -15,52 +16,54 @@ const COLON: u8 = b':';
 const FILE: usize = 32768;
 
 // Files the files of a case and prints what comes of it; does nothing with a line that is no case.
-pub fn answer(text: &[u8], line: &[u8]) {
+pub fn answer(rt: &impl Print, text: &[u8], line: &[u8]) -> io::Result<()> {
     if !test_cases::is_case(line) {
-        return;
+        return Ok(());
     }
     // A line with a colon says what a mark stands for.
     if first(line, COLON).len() < line.len() {
-        return;
+        return Ok(());
     }
     // A case has two semicolons.
     let rest = after(line, SEMICOLON);
     if first(rest, SEMICOLON).len() == rest.len() {
-        unreadable();
-        return;
+        return unreadable(rt);
     }
-    with_constraint(text, line);
+    with_constraint(rt, text, line)
 }
 
 // Writes the constraint, and goes on to the other files.
-fn with_constraint(text: &[u8], line: &[u8]) {
+fn with_constraint(rt: &impl Print, text: &[u8], line: &[u8]) -> io::Result<()> {
     let mut bytes = [0u8; FILE];
     let count = build(File::Constraint, text, line, &mut bytes);
     if count == FILE {
-        unreadable();
-        return;
+        return unreadable(rt);
     }
-    with_supply(text, line, &bytes[0..count]);
+    with_supply(rt, text, line, &bytes[0..count])
 }
 
-fn with_supply(text: &[u8], line: &[u8], constraint: &[u8]) {
+fn with_supply(rt: &impl Print, text: &[u8], line: &[u8], constraint: &[u8]) -> io::Result<()> {
     let mut bytes = [0u8; FILE];
     let count = build(File::Supply, text, line, &mut bytes);
     if count == FILE {
-        unreadable();
-        return;
+        return unreadable(rt);
     }
-    with_schedules(text, line, constraint, &bytes[0..count]);
+    with_schedules(rt, text, line, constraint, &bytes[0..count])
 }
 
-fn with_schedules(text: &[u8], line: &[u8], constraint: &[u8], supply: &[u8]) {
+fn with_schedules(
+    rt: &impl Print,
+    text: &[u8],
+    line: &[u8],
+    constraint: &[u8],
+    supply: &[u8],
+) -> io::Result<()> {
     let mut bytes = [0u8; FILE];
     let count = build(File::Schedules, text, line, &mut bytes);
     if count == FILE {
-        unreadable();
-        return;
+        return unreadable(rt);
     }
-    case(constraint, supply, &bytes[0..count]);
+    case(rt, constraint, supply, &bytes[0..count])
 }
 
 // Writes a file.

@@ -3,6 +3,7 @@ use crate::report::case;
 use choice::DayKind;
 use hours::LAST_HOUR;
 use numeral::Answer;
+use std::io;
 use tables::File;
 use test_cases::{BLANK, LF, put_file, unreadable};
 use texts::{after, first, same_text};
@@ -11,48 +12,52 @@ use texts::{after, first, same_text};
 const FILE: usize = 4096;
 
 // Answers the case that a text begins with; does nothing where its first line begins none.
-pub fn answer(text: &[u8]) {
+pub fn answer(rt: &impl Print, text: &[u8]) -> io::Result<()> {
     let line = first(text, LF);
     if !test_cases::is_case(line) {
-        return;
+        return Ok(());
     }
     let Answer::Number(hour) = numeral::read(first(line, BLANK), 0, LAST_HOUR) else {
-        unreadable();
-        return;
+        return unreadable(rt);
     };
-    exposed(hour, after(line, BLANK), after(text, LF));
+    exposed(rt, hour, after(line, BLANK), after(text, LF))
 }
 
-fn exposed(hour: u64, words: &[u8], rows: &[u8]) {
+fn exposed(rt: &impl Print, hour: u64, words: &[u8], rows: &[u8]) -> io::Result<()> {
     let word = first(words, BLANK);
     let day = after(words, BLANK);
     if same_text(word, b"exposed") {
-        running(hour, true, day, rows);
+        running(rt, hour, true, day, rows)
     } else if same_text(word, b"not-exposed") {
-        running(hour, false, day, rows);
+        running(rt, hour, false, day, rows)
     } else {
-        unreadable();
+        unreadable(rt)
     }
 }
 
-fn running(hour: u64, is_exposed: bool, word: &[u8], rows: &[u8]) {
+fn running(
+    rt: &impl Print,
+    hour: u64,
+    is_exposed: bool,
+    word: &[u8],
+    rows: &[u8],
+) -> io::Result<()> {
     if same_text(word, b"not-running") {
-        ask(hour, is_exposed, DayKind::NotRunning, rows);
+        ask(rt, hour, is_exposed, DayKind::NotRunning, rows)
     } else if same_text(word, b"on-M") {
-        ask(hour, is_exposed, DayKind::OnM, rows);
+        ask(rt, hour, is_exposed, DayKind::OnM, rows)
     } else if same_text(word, b"on-C") {
-        ask(hour, is_exposed, DayKind::OnC, rows);
+        ask(rt, hour, is_exposed, DayKind::OnC, rows)
     } else {
-        unreadable();
+        unreadable(rt)
     }
 }
 
-fn ask(hour: u64, is_exposed: bool, day: DayKind, rows: &[u8]) {
+fn ask(rt: &impl Print, hour: u64, is_exposed: bool, day: DayKind, rows: &[u8]) -> io::Result<()> {
     let mut schedules = [0u8; FILE];
     let count = put_file(File::Schedules, rows, &mut schedules);
     if count == FILE {
-        unreadable();
-        return;
+        return unreadable(rt);
     }
-    case(hour, is_exposed, day, &schedules[0..count]);
+    case(rt, hour, is_exposed, day, &schedules[0..count])
 }

@@ -7,38 +7,59 @@ ghost use Rattle.choice.specs.promises.Ranges.{ScheduleCells};
 use cells::schedule::{UNIT, cell};
 use checking::SCHEDULE_CELLS;
 use choice::{Choice, Chosen, DayKind};
-use libc::STDOUT_FILENO;
 use links::LENGTH;
 use schedules::link_rows;
+use std::io;
 use tables::{File, Kind, Reading};
 use test_cases::{print, unreadable};
 
 // The choice for the unit of a schedules file, whose rows are lent as the cells that reading lays
 // down.
-pub fn case(hour: u64, is_exposed: bool, day: DayKind, schedules: &[u8]) {
+pub fn case(
+    rt: &impl Print,
+    hour: u64,
+    is_exposed: bool,
+    day: DayKind,
+    schedules: &[u8],
+) -> io::Result<()> {
     let mut cells = [0u64; SCHEDULE_CELLS];
     let reading = tables::read(File::Schedules, schedules, &mut cells);
     match reading {
-        Reading::Rows(n) => choose(&cells, n, hour, is_exposed, day),
-        Reading::Refused(_) => unreadable(),
+        Reading::Rows(n) => choose(rt, &cells, n, hour, is_exposed, day),
+        Reading::Refused(_) => unreadable(rt),
     }
 }
 
-fn choose(cells: &[u64], n: usize, hour: u64, is_exposed: bool, day: DayKind)
+fn choose(
+    rt: &impl Print,
+    cells: &[u64],
+    n: usize,
+    hour: u64,
+    is_exposed: bool,
+    day: DayKind,
+) -> io::Result<()>
     requires { ScheduleCells n cells.now }
 {
     let mut links = [0u16; LENGTH];
     link_rows(cells, n, &mut links);
-    choose_linked(cells, n, &links, hour, is_exposed, day);
+    choose_linked(rt, cells, n, &links, hour, is_exposed, day)
 }
 
-fn choose_linked(cells: &[u64], n: usize, links: &[u16], hour: u64, is_exposed: bool, day: DayKind)
+fn choose_linked(
+    rt: &impl Print,
+    cells: &[u64],
+    n: usize,
+    links: &[u16],
+    hour: u64,
+    is_exposed: bool,
+    day: DayKind,
+) -> io::Result<()>
     requires schedule_cells { ScheduleCells n cells.now }
     requires rows_linked { RowsLinked cells.now n links.now }
 {
     match choice::choose(cells, n, links, unit(cells, n), hour, is_exposed, day) {
-        Chosen::Schedule(c) => print_choice(c),
-        Chosen::Nothing => print(b"nothing\n"),
+        Chosen::Schedule(c) => print_choice(rt, c),
+        Chosen::Nothing => print(rt, b"nothing\n"),
     }
 }
 
@@ -49,13 +70,12 @@ fn unit(cells: &[u64], n: usize) -> u64
     if n == 0 { 0 } else { cell(cells, 0, UNIT) }
 }
 
-fn print_choice(c: Choice) {
-    io::print_decimal(STDOUT_FILENO, c.schedule);
+fn print_choice(rt: &impl Print, c: Choice) -> io::Result<()> {
+    print!(rt; "{}", c.schedule)?;
     let kind = c.kind;
     match kind {
-        Kind::M => print(b" M "),
-        Kind::C => print(b" C "),
+        Kind::M => print(rt, b" M ")?,
+        Kind::C => print(rt, b" C ")?,
     }
-    io::print_decimal(STDOUT_FILENO, c.cost);
-    print(b"\n");
+    println!(rt; "{}", c.cost)
 }

@@ -1,6 +1,7 @@
 // A case, from its lines to what it is about. Assumes nothing of the lines.
 use crate::report::{case, print_number};
 use numeral::Answer;
+use std::io;
 use tables::File;
 use test_cases::{BLANK, LF, print, put_file, unreadable};
 use texts::{after, first, same_text};
@@ -12,54 +13,49 @@ const RELIEF: u64 = 1000000;
 const FILE: usize = 4096;
 
 // Answers the case that a text begins with; does nothing where its first line begins none.
-pub fn answer(text: &[u8]) {
+pub fn answer(rt: &impl Print, text: &[u8]) -> io::Result<()> {
     let line = first(text, LF);
     if !test_cases::is_case(line) {
-        return;
+        return Ok(());
     }
     let name = first(line, BLANK);
     let numbers = after(line, BLANK);
     if same_text(name, b"offer") {
-        offer(numbers);
+        offer(rt, numbers)
     } else if same_text(name, b"market") {
-        market(numbers, after(text, LF));
+        market(rt, numbers, after(text, LF))
     } else {
-        unreadable();
+        unreadable(rt)
     }
 }
 
-fn offer(number: &[u8]) {
+fn offer(rt: &impl Print, number: &[u8]) -> io::Result<()> {
     let Answer::Number(cost) = numeral::read(number, 0, u64::MAX) else {
-        unreadable();
-        return;
+        return unreadable(rt);
     };
-    print_number(b"", cost);
-    print_number(b" ", offers::capped(cost));
-    print(b"\n");
+    print_number(rt, b"", cost)?;
+    print_number(rt, b" ", offers::capped(cost))?;
+    print(rt, b"\n")
 }
 
-fn market(numbers: &[u8], rows: &[u8]) {
+fn market(rt: &impl Print, numbers: &[u8], rows: &[u8]) -> io::Result<()> {
     let Answer::Number(relief) = numeral::read(first(numbers, BLANK), 0, u64::MAX) else {
-        unreadable();
-        return;
+        return unreadable(rt);
     };
     let Answer::Number(cutoff) = numeral::read(after(numbers, BLANK), 0, u64::MAX) else {
-        unreadable();
-        return;
+        return unreadable(rt);
     };
-    supplied(relief, cutoff, rows);
+    supplied(rt, relief, cutoff, rows)
 }
 
-fn supplied(relief: u64, cutoff: u64, rows: &[u8]) {
+fn supplied(rt: &impl Print, relief: u64, cutoff: u64, rows: &[u8]) -> io::Result<()> {
     if RELIEF < relief {
-        unreadable();
-        return;
+        return unreadable(rt);
     }
     let mut supply = [0u8; FILE];
     let count = put_file(File::Supply, rows, &mut supply);
     if count == FILE {
-        unreadable();
-        return;
+        return unreadable(rt);
     }
-    case(relief, cutoff, &supply[0..count]);
+    case(rt, relief, cutoff, &supply[0..count])
 }

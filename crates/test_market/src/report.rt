@@ -8,8 +8,8 @@ ghost use Rattle.std.specs.Prelude.{◌≤◌, ◌<◌, length};
 ghost use Rattle.offers.specs.promises.Ranges.{SupplyCells};
 
 use checking::SUPPLY_CELLS;
-use libc::STDOUT_FILENO;
 use pivotal::{Answer, Finding};
+use std::io;
 use tables::{File, Reading};
 use test_cases::print;
 
@@ -18,66 +18,86 @@ const SUPPLIERS: usize = 257;
 
 // The market of a supply file, whose rows are lent as the cells that reading lays down, for a relief
 // that the table permits.
-pub fn case(relief: u64, cutoff: u64, supply: &[u8])
+pub fn case(rt: &impl Print, relief: u64, cutoff: u64, supply: &[u8]) -> io::Result<()>
     requires { relief ≤ 1000000 }
 {
     let need = market::need_of(relief);
     let mut cells = [0u64; SUPPLY_CELLS];
     let reading = tables::read(File::Supply, supply, &mut cells);
     match reading {
-        Reading::Rows(n) => print_market(&cells, n, cutoff, need),
-        Reading::Refused(refusal) => print_number(b"refused ", refusal.number),
+        Reading::Rows(n) => print_market(rt, &cells, n, cutoff, need)?,
+        Reading::Refused(refusal) => print_number(rt, b"refused ", refusal.number)?,
     }
-    print(b"\n");
+    print(rt, b"\n")
 }
 
-fn print_market(cells: &[u64], n: usize, cutoff: u64, need: u64)
+fn print_market(rt: &impl Print, cells: &[u64], n: usize, cutoff: u64, need: u64) -> io::Result<()>
     requires { SupplyCells n cells.now }
 {
     let supply = market::eligible_supply(cells, n, cutoff);
-    print_number(b"need ", need);
-    print_number(b" supply ", supply);
+    print_number(rt, b"need ", need)?;
+    print_number(rt, b" supply ", supply)?;
     if supply < need {
-        print(b" short");
+        print(rt, b" short")?;
     }
     let clearing = market::clearing_row(cells, n, cutoff, need);
-    print(b" rows");
-    print_rows(cells, n, cutoff, clearing);
+    print(rt, b" rows")?;
+    print_rows(rt, cells, n, cutoff, clearing)?;
     if clearing < n {
-        print_number(b" clears ", clearing as u64);
-        print_suppliers(cells, n, cutoff, need, clearing);
+        print_number(rt, b" clears ", clearing as u64)?;
+        print_suppliers(rt, cells, n, cutoff, need, clearing)?;
     }
+    Ok(())
 }
 
-fn print_rows(cells: &[u64], n: usize, cutoff: u64, clearing: usize)
+fn print_rows(
+    rt: &impl Print,
+    cells: &[u64],
+    n: usize,
+    cutoff: u64,
+    clearing: usize,
+) -> io::Result<()>
     requires { SupplyCells n cells.now }
 {
     let mut row = 0;
     while row < n {
-        print_number(b" ", offers::effective_supply(cells, row));
-        print_letter(cells, n, cutoff, clearing, row);
+        print_number(rt, b" ", offers::effective_supply(cells, row))?;
+        print_letter(rt, cells, n, cutoff, clearing, row)?;
         row += 1;
     }
+    Ok(())
 }
 
-fn print_letter(cells: &[u64], n: usize, cutoff: u64, clearing: usize, row: usize)
+fn print_letter(
+    rt: &impl Print,
+    cells: &[u64],
+    n: usize,
+    cutoff: u64,
+    clearing: usize,
+    row: usize,
+) -> io::Result<()>
     requires supply_cells { SupplyCells n cells.now }
     requires row_lt_n { row < n }
 {
     if clearing < n {
         if offers::is_relevant(cells, row, clearing, cutoff) {
-            print(b"r");
-            return;
+            return print(rt, b"r");
         }
     }
     if offers::is_eligible(cells, row, cutoff) {
-        print(b"e");
-        return;
+        return print(rt, b"e");
     }
-    print(b"-");
+    print(rt, b"-")
 }
 
-fn print_suppliers(cells: &[u64], n: usize, cutoff: u64, need: u64, clearing: usize)
+fn print_suppliers(
+    rt: &impl Print,
+    cells: &[u64],
+    n: usize,
+    cutoff: u64,
+    need: u64,
+    clearing: usize,
+) -> io::Result<()>
     requires supply_cells { SupplyCells n cells.now }
     requires clearing_lt_n { clearing < n }
 {
@@ -85,39 +105,46 @@ fn print_suppliers(cells: &[u64], n: usize, cutoff: u64, need: u64, clearing: us
     let count = market::list_parties(cells, n, &mut suppliers);
     let mut amounts = [0u64; SUPPLIERS];
     market::add_amounts(cells, n, cutoff, clearing, &suppliers, count, &mut amounts);
-    print(b" suppliers");
-    print_tests(&suppliers, &amounts, count, need);
+    print(rt, b" suppliers")?;
+    print_tests(rt, &suppliers, &amounts, count, need)
 }
 
-fn print_tests(suppliers: &[u64], amounts: &[u64], count: usize, need: u64)
+fn print_tests(
+    rt: &impl Print,
+    suppliers: &[u64],
+    amounts: &[u64],
+    count: usize,
+    need: u64,
+) -> io::Result<()>
     requires count_in_bounds { count ≤ length suppliers.now }
     requires count_in_bounds_2 { count ≤ length amounts.now }
 {
     let mut place = 0;
     while place < count {
-        print_number(b" ", suppliers[place]);
-        print_number(b":", amounts[place]);
-        print_test(&amounts[0..count], place, need);
+        print_number(rt, b" ", suppliers[place])?;
+        print_number(rt, b":", amounts[place])?;
+        print_test(rt, &amounts[0..count], place, need)?;
         place += 1;
     }
+    Ok(())
 }
 
-fn print_test(amounts: &[u64], place: usize, need: u64) {
+fn print_test(rt: &impl Print, amounts: &[u64], place: usize, need: u64) -> io::Result<()> {
     match pivotal::test(amounts, place, need) {
-        Answer::Tested(left, found) => print_tested(left, found),
-        Answer::Refused => print(b":refused"),
+        Answer::Tested(left, found) => print_tested(rt, left, found),
+        Answer::Refused => print(rt, b":refused"),
     }
 }
 
-fn print_tested(left: u64, found: Finding) {
-    print_number(b":", left);
+fn print_tested(rt: &impl Print, left: u64, found: Finding) -> io::Result<()> {
+    print_number(rt, b":", left)?;
     match found {
-        Finding::Passes => print(b"P"),
-        Finding::Fails => print(b"F"),
+        Finding::Passes => print(rt, b"P"),
+        Finding::Fails => print(rt, b"F"),
     }
 }
 
-pub fn print_number(before: &[u8], number: u64) {
-    print(before);
-    io::print_decimal(STDOUT_FILENO, number);
+pub fn print_number(rt: &impl Print, before: &[u8], number: u64) -> io::Result<()> {
+    print(rt, before)?;
+    print!(rt; "{number}")
 }

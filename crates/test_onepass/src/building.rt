@@ -2,6 +2,7 @@
 ghost use Rattle.std.specs.Prelude.{◌≤◌, length};
 
 use crate::report::case;
+use std::io;
 use tables::File;
 use test_cases::{BLANK, put, put_header, put_many, unreadable};
 use texts::{after, first, same_text};
@@ -10,34 +11,34 @@ use texts::{after, first, same_text};
 const FILE_BYTES: usize = 65536;
 
 // Reads the file of a case and prints what comes of it; does nothing with a line that is no case.
-pub fn answer(line: &[u8]) {
+pub fn answer(rt: &impl Print, line: &[u8]) -> io::Result<()> {
     if !test_cases::is_case(line) {
-        return;
+        return Ok(());
     }
     let name = first(line, BLANK);
     let form = after(line, BLANK);
     if same_text(name, b"constraint") {
-        one(File::Constraint, form);
+        one(rt, File::Constraint, form)
     } else if same_text(name, b"supply") {
-        one(File::Supply, form);
+        one(rt, File::Supply, form)
     } else if same_text(name, b"schedules") {
-        one(File::Schedules, form);
+        one(rt, File::Schedules, form)
     } else if same_text(name, b"curves") {
-        one(File::Curves, form);
+        one(rt, File::Curves, form)
     } else if same_text(name, b"parents") {
-        one(File::Parents, form);
+        one(rt, File::Parents, form)
     } else {
-        unreadable();
+        unreadable(rt)
     }
 }
 
-fn one(file: File, form: &[u8]) {
+fn one(rt: &impl Print, file: File, form: &[u8]) -> io::Result<()> {
     let mut bytes = [0u8; FILE_BYTES];
     let count = build(file, form, &mut bytes);
     if count < FILE_BYTES {
-        case(file, &bytes[0..count]);
+        case(rt, file, &bytes[0..count])
     } else {
-        unreadable();
+        unreadable(rt)
     }
 }
 

@@ -15,24 +15,25 @@
 mod building;
 mod report;
 
-use libc::STDIN_FILENO;
-use test_cases::LF;
+use std::io;
+use test_cases::{LF, read_input};
 use texts::{behind, first};
 
 // Room for all cases.
 const INPUT: usize = 65536;
 
-fn main() {
+fn main(rt: HostRuntime) -> io::Result<()> {
     let mut input = [0u8; INPUT];
-    let count = io::read_full(STDIN_FILENO, &mut input);
-    run(&input[0..count]);
+    let count = read_input(&rt, &mut input)?;
+    run(&rt, &input[0..count])
 }
 
-fn run(text: &[u8]) {
+fn run(rt: &impl Print, text: &[u8]) -> io::Result<()> {
     let mut rest = text;
     while 0 < rest.len() {
-        building::answer(first(rest, LF));
+        building::answer(rt, first(rest, LF))?;
         let next = behind(rest, LF);
         rest = &rest[next..];
     }
+    Ok(())
 }

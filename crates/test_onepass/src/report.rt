@@ -1,5 +1,5 @@
 // What a case prints. Assumes that no column permits the largest 64-bit number.
-use libc::STDOUT_FILENO;
+use std::io;
 use tables::{File, Reading};
 use test_cases::{print, print_three};
 
@@ -10,38 +10,37 @@ const CELLS: usize = 20480;
 const UNTOUCHED: u64 = 18_446_744_073_709_551_615;
 
 // Reads a file and prints the refusal as number, file and place, or the rows and every cell.
-pub fn case(file: File, bytes: &[u8]) {
+pub fn case(rt: &impl Print, file: File, bytes: &[u8]) -> io::Result<()> {
     let mut cells = [UNTOUCHED; CELLS];
     let reading = onepass::read(file, bytes, &mut cells);
     match reading {
-        Reading::Rows(rows) => print_rows(rows, &cells),
-        Reading::Refused(refusal) => print_three(refusal.number, refusal.file, refusal.place),
+        Reading::Rows(rows) => print_rows(rt, rows, &cells),
+        Reading::Refused(refusal) => print_three(rt, refusal.number, refusal.file, refusal.place),
     }
 }
 
-fn print_rows(rows: usize, cells: &[u64]) {
-    print(b"rows ");
-    io::print_decimal(STDOUT_FILENO, rows as u64);
-    print(b":");
-    print_cells(cells);
-    print(b"\n");
+fn print_rows(rt: &impl Print, rows: usize, cells: &[u64]) -> io::Result<()> {
+    print!(rt; "rows {rows}:")?;
+    print_cells(rt, cells)?;
+    print(rt, b"\n")
 }
 
 // Prints the cells that reading has written.
-fn print_cells(cells: &[u64]) {
+fn print_cells(rt: &impl Print, cells: &[u64]) -> io::Result<()> {
     let mut i = 0;
     while i < cells.len() {
         if cells[i] == UNTOUCHED {
-            return;
+            return Ok(());
         }
-        print_cell(i, cells[i]);
+        print_cell(rt, i, cells[i])?;
         i += 1;
     }
+    Ok(())
 }
 
-fn print_cell(i: usize, cell: u64) {
+fn print_cell(rt: &impl Print, i: usize, cell: u64) -> io::Result<()> {
     if 0 < i {
-        print(b",");
+        print(rt, b",")?;
     }
-    io::print_decimal(STDOUT_FILENO, cell);
+    print!(rt; "{cell}")
 }

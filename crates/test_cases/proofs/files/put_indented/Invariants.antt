@@ -1,0 +1,9 @@
+-- The lines, one a turn: what is left of the text gets shorter. Assumes nothing.
+use Rattle.std.proofs.Common.{◌≡◌, ◌≤◌, length}
+use Rattle.test_cases.proofs.files.put_indented.Given as goal
+
+abbrev pub invariant-loop-rest : goal.invariant-loop-rest
+invariant-loop-rest l = (l.at ≤ length l.out) × (length l.out ≡ length l.initial.out)
+
+abbrev pub decreases-loop-rest : goal.decreases-loop-rest
+decreases-loop-rest l = length l.rest

@@ -1,0 +1,22 @@
+// What a program of cases reads. Assumes nothing.
+ghost use Rattle.std.specs.Io.{ReadsAtMost};
+
+use std::io;
+use std::io::Read;
+
+// Reads standard input to the start of the room, until it is full or the input ends, and answers how
+// many bytes it read.
+pub fn read_input(rt: &impl Input, room: &mut [u8]) -> io::Result<usize>
+    ensures { ReadsAtMost result room.new }
+{
+    let mut input = rt.reader();
+    let mut done = 0;
+    while done < room.len() {
+        let n = input.read(&mut room[done..])?;
+        if n == 0 {
+            break;
+        }
+        done += n;
+    }
+    Ok(done)
+}

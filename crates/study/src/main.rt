@@ -3,7 +3,7 @@
 // printed can't be said in a contract; what a study of those bytes gives is said by `study_in_room`.
 #![tactic(auto)]
 
-ghost use Rattle.std.specs.Prelude.{◌≢◌, ◌≤◌, length};
+ghost use Rattle.std.specs.Prelude.{◌≡◌, ◌≢◌, ◌≤◌, OnErr, length};
 ghost use Rattle.std.specs.Io.{ReadsAtMost};
 ghost use Rattle.checking.specs.Files.{files};
 ghost use Rattle.engine.specs.Studying.{study_told, study_count};
@@ -66,9 +66,11 @@ fn run(
 }
 
 // Reads the file of this name to the start of the room, until it is full, and answers how many bytes
-// it read: none of a file that can't be opened.
+// it read: none of a file that can't be opened. An error is that of a read, and leaves the room as long
+// as it was.
 fn read(rt: &impl Files, name: &str, room: &mut [u8]) -> io::Result<usize>
-    ensures { ReadsAtMost result room.new }
+    ensures count { ReadsAtMost result room.new }
+    ensures err { OnErr result (length room.new ≡ length room.old) }
 {
     match fs::open(rt, name) {
         Ok(mut file) => read_full(&mut file, room),
@@ -79,7 +81,8 @@ fn read(rt: &impl Files, name: &str, room: &mut [u8]) -> io::Result<usize>
 // Reads a file to the start of the room, until it is full or the file ends, and answers how many bytes
 // it read.
 fn read_full(file: &mut impl Read, room: &mut [u8]) -> io::Result<usize>
-    ensures { ReadsAtMost result room.new }
+    ensures count { ReadsAtMost result room.new }
+    ensures err { OnErr result (length room.new ≡ length room.old) }
 {
     let mut done = 0;
     while done < room.len() {

@@ -1,13 +1,15 @@
 // What a program of cases reads. Assumes nothing.
+ghost use Rattle.std.specs.Prelude.{◌≡◌, OnErr, length};
 ghost use Rattle.std.specs.Io.{ReadsAtMost};
 
 use std::io;
 use std::io::Read;
 
 // Reads standard input to the start of the room, until it is full or the input ends, and answers how
-// many bytes it read.
+// many bytes it read. An error is that of a read, and leaves the room as long as it was.
 pub fn read_input(rt: &impl Input, room: &mut [u8]) -> io::Result<usize>
-    ensures { ReadsAtMost result room.new }
+    ensures count { ReadsAtMost result room.new }
+    ensures err { OnErr result (length room.new ≡ length room.old) }
 {
     let mut input = rt.reader();
     let mut done = 0;

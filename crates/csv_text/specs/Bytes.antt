@@ -1,11 +1,11 @@
 -- The bytes of RFC 4180 that part fields and records. Assumes nothing.
 use Rattle.std.specs.Prelude.{ℕ}
 
--- COMMA = %x2_c
+-- COMMA = %x2C
 abbrev pub COMMA : ℕ
 COMMA = 0x2C
 
--- CR = %x0_d
+-- CR = %x0D
 abbrev pub CR : ℕ
 CR = 0x0D
 
@@ -13,6 +13,6 @@ CR = 0x0D
 abbrev pub DQUOTE : ℕ
 DQUOTE = 0x22
 
--- LF = %x0_a
+-- LF = %x0A
 abbrev pub LF : ℕ
 LF = 0x0A

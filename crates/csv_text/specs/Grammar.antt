@@ -5,7 +5,7 @@
 use Rattle.std.specs.Prelude.{ℕ, ◌≤◌, List, [], ◌∷◌}
 use Rattle.csv_text.specs.Bytes.{COMMA, CR, DQUOTE, LF}
 
--- TEXTDATA = %x20-21 / %x23-2_b / %x2_d-7_e
+-- TEXTDATA = %x20-21 / %x23-2B / %x2D-7E
 pub data TEXTDATA (b : ℕ) : Type 0 where
   below-quote : 0x20 ≤ b → b ≤ 0x21 → TEXTDATA b
   below-comma : 0x23 ≤ b → b ≤ 0x2B → TEXTDATA b

@@ -11,7 +11,7 @@ pub const LAST_HOUR: u64 = 23;
 // Whether hour `k` is in the run of a schedule that begins at `hour`.
 pub fn in_run(hour: u64, minrun: u64, k: u64) -> bool
     requires hour_le_last_hour { hour ≤ last_hour }
-    requires le_minrun { 1 ≤ minrun }
+    requires one_le_minrun { 1 ≤ minrun }
     requires minrun_bound { minrun ≤ last_hour + 1 }
     ensures { result ≡ in_run hour minrun k }
 {
@@ -24,7 +24,7 @@ pub fn in_run(hour: u64, minrun: u64, k: u64) -> bool
 // The last hour of that run.
 pub fn run_end(hour: u64, minrun: u64) -> u64
     requires hour_le_last_hour { hour ≤ last_hour }
-    requires le_minrun { 1 ≤ minrun }
+    requires one_le_minrun { 1 ≤ minrun }
     requires minrun_bound { minrun ≤ last_hour + 1 }
     ensures { result ≡ run_end hour minrun }
 {

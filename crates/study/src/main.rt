@@ -120,7 +120,7 @@ fn study_in_room(
 ) -> Study
     requires { longest ≤ length room.old }
     ensures studies_fresh { StudiesFresh (files constraint.now supply.now schedules.now curves.now parents.now) room.old room.new result }
-    ensures result_nonzero { (study_told result).number ≢ 10 }
+    ensures room_enough { (study_told result).number ≢ 10 }
     ensures result_in_bounds { study_count result ≤ length room.new }
 {
     let studied = Day::fresh().study(constraint, supply, schedules, curves, parents, room);

@@ -1,7 +1,7 @@
 // What programs of cases share: which lines are cases, the bytes that a text with escapes stands for,
 // a file's header and rows, reading and printing. A line begins a case, unless it is empty, begins with `#`, or
 // begins with a blank and so goes on with the case above it. In a case `\r`, `\n`, `\t`, `\s` (a space),
-// `\\` and `\x_hH` stand for one byte.
+// `\\` and `\xHH` stand for one byte.
 //
 // A writer writes at the start of `out` and answers how many bytes it wrote, or the whole of `out`
 // where the text isn't in the form or has no room. A writer behind it then has no room either, so

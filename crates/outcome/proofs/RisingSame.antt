@@ -12,7 +12,7 @@ use Rattle.base.specs.Rising.{RisingFrom, RisingFrom.end, RisingFrom.next}
 
 -- each is above the bound
 pub above-bound : {b x : ℕ} {xs : List ℕ} → RisingFrom b xs → Among x xs → b < x
-above-bound (end {b = b}) x7 = elim x7 [ ]
+above-bound (end {b = b}) m = elim m [ ]
 above-bound (next h r) (first e) = omega arith
 above-bound (next h r) (later m) = omega (arith, above-bound r m)
 

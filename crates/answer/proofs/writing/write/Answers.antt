@@ -10,29 +10,24 @@ use Rattle.answer.proofs.writing.write.Goals as goal
 
 pub write_header-at-requires : goal.write_header-at-requires
 write_header-at-requires c =
-    let start = c in
-    omega (arith, text-parts (answer_rows start.args.n start.args.cells.now))
+    omega (arith, text-parts (answer_rows c.args.n c.args.cells.now))
 
 pub slice_bounds-write_rows-count : goal.slice_bounds-write_rows-count
 slice_bounds-write_rows-count c =
-    let start = c in
-    omega (arith, text-parts (answer_rows start.args.n start.args.cells.now))
+    omega (arith, text-parts (answer_rows c.args.n c.args.cells.now))
 
 pub slice_bounds-write_rows-start : goal.slice_bounds-write_rows-start
 slice_bounds-write_rows-start c =
-    let start = c in
-    omega (arith, text-parts (answer_rows start.args.n start.args.cells.now))
+    omega (arith, text-parts (answer_rows c.args.n c.args.cells.now))
 
 pub write_rows-at-requires : goal.write_rows-at-requires
 write_rows-at-requires c =
-    let start = c in
-    let parts = text-parts (answer_rows start.args.n start.args.cells.now) in
-    record { n_in_bounds = start.requires.n_in_bounds; all = start.requires.all; cells_in_bounds = rw (rest-lent, length-drop) (omega (arith, parts)) }
+    let parts = text-parts (answer_rows c.args.n c.args.cells.now) in
+    record { n_in_bounds = c.requires.n_in_bounds; all = c.requires.all; cells_in_bounds = rw (rest-lent, length-drop) (omega (arith, parts)) }
 
 pub overflow_add-at : goal.overflow_add-at
 overflow_add-at c =
-    let start = c in
-    omega (arith, text-parts (answer_rows start.args.n start.args.cells.now))
+    omega (arith, text-parts (answer_rows c.args.n c.args.cells.now))
 
 pub returns : goal.returns
 unfolding answer_text

@@ -9,51 +9,42 @@ use Rattle.answer.proofs.writing.write_row.Goals as goal
 
 pub write_ids-at-requires : goal.write_ids-at-requires
 write_ids-at-requires c =
-    let start = c in
-    let parts = line-parts-length (answer_at start.args.cells.now start.args.i) in
-    record { i_in_bounds = start.requires.i_in_bounds; i_in_bounds_2 = omega (arith, parts) }
+    let parts = line-parts-length (answer_at c.args.cells.now c.args.i) in
+    record { i_in_bounds = c.requires.i_in_bounds; i_in_bounds_2 = omega (arith, parts) }
 
 pub slice_bounds-write_test-count : goal.slice_bounds-write_test-count
 slice_bounds-write_test-count c =
-    let start = c in
-    omega (arith, line-parts-length (answer_at start.args.cells.now start.args.i))
+    omega (arith, line-parts-length (answer_at c.args.cells.now c.args.i))
 
 pub slice_bounds-write_test-start : goal.slice_bounds-write_test-start
 slice_bounds-write_test-start c =
-    let start = c in
-    omega (arith, line-parts-length (answer_at start.args.cells.now start.args.i))
+    omega (arith, line-parts-length (answer_at c.args.cells.now c.args.i))
 
 pub write_test-at-requires : goal.write_test-at-requires
 write_test-at-requires c =
-    let start = c in
-    let parts = line-parts-length (answer_at start.args.cells.now start.args.i) in
-    record { i_in_bounds = start.requires.i_in_bounds; lettered = start.requires.lettered; i_in_bounds_2 = rw (rest-lent, length-drop) (omega (arith, parts)) }
+    let parts = line-parts-length (answer_at c.args.cells.now c.args.i) in
+    record { i_in_bounds = c.requires.i_in_bounds; lettered = c.requires.lettered; i_in_bounds_2 = rw (rest-lent, length-drop) (omega (arith, parts)) }
 
 pub overflow_add-at : goal.overflow_add-at
 overflow_add-at c =
-    let start = c in
-    omega (arith, line-parts-length (answer_at start.args.cells.now start.args.i))
+    omega (arith, line-parts-length (answer_at c.args.cells.now c.args.i))
 
 pub slice_bounds-write_schedule-count : goal.slice_bounds-write_schedule-count
 slice_bounds-write_schedule-count c =
-    let start = c in
-    omega (arith, line-parts-length (answer_at start.args.cells.now start.args.i))
+    omega (arith, line-parts-length (answer_at c.args.cells.now c.args.i))
 
 pub slice_bounds-write_schedule-start : goal.slice_bounds-write_schedule-start
 slice_bounds-write_schedule-start c =
-    let start = c in
-    omega (arith, line-parts-length (answer_at start.args.cells.now start.args.i))
+    omega (arith, line-parts-length (answer_at c.args.cells.now c.args.i))
 
 pub write_schedule-at-requires : goal.write_schedule-at-requires
 write_schedule-at-requires c =
-    let start = c in
-    let parts = line-parts-length (answer_at start.args.cells.now start.args.i) in
-    record { i_in_bounds = start.requires.i_in_bounds; lettered = start.requires.lettered; i_in_bounds_2 = rw (rest-lent, length-drop) (omega (arith, parts)) }
+    let parts = line-parts-length (answer_at c.args.cells.now c.args.i) in
+    record { i_in_bounds = c.requires.i_in_bounds; lettered = c.requires.lettered; i_in_bounds_2 = rw (rest-lent, length-drop) (omega (arith, parts)) }
 
 pub overflow_add-at-2 : goal.overflow_add-at-2
 overflow_add-at-2 c =
-    let start = c in
-    omega (arith, line-parts-length (answer_at start.args.cells.now start.args.i))
+    omega (arith, line-parts-length (answer_at c.args.cells.now c.args.i))
 
 pub returns : goal.returns
 returns c =

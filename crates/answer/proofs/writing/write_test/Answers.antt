@@ -10,30 +10,25 @@ use Rattle.answer.proofs.writing.write_test.Goals as goal
 
 pub write_letter-at-requires : goal.write_letter-at-requires
 write_letter-at-requires c =
-    let start = c in
-    let parts = test-length (answer_at start.args.cells.now start.args.i) in
-    record { i_in_bounds = start.requires.i_in_bounds; column_bound = omega arith; column_bound_2 = start.requires.lettered.verdict; column_in_bounds = omega (arith, parts) }
+    let parts = test-length (answer_at c.args.cells.now c.args.i) in
+    record { i_in_bounds = c.requires.i_in_bounds; column_bound = omega arith; column_bound_2 = c.requires.lettered.verdict; column_in_bounds = omega (arith, parts) }
 
 pub slice_bounds-write_number-count : goal.slice_bounds-write_number-count
 slice_bounds-write_number-count c =
-    let start = c in
-    omega (arith, test-length (answer_at start.args.cells.now start.args.i))
+    omega (arith, test-length (answer_at c.args.cells.now c.args.i))
 
 pub slice_bounds-write_number-start : goal.slice_bounds-write_number-start
 slice_bounds-write_number-start c =
-    let start = c in
-    omega (arith, test-length (answer_at start.args.cells.now start.args.i))
+    omega (arith, test-length (answer_at c.args.cells.now c.args.i))
 
 pub write_number-at-requires : goal.write_number-at-requires
 write_number-at-requires c =
-    let start = c in
-    let parts = test-length (answer_at start.args.cells.now start.args.i) in
-    record { i_in_bounds = start.requires.i_in_bounds; column_bound = omega arith; column_in_bounds = rw (rest-lent, length-drop) (omega (arith, parts)) }
+    let parts = test-length (answer_at c.args.cells.now c.args.i) in
+    record { i_in_bounds = c.requires.i_in_bounds; column_bound = omega arith; column_in_bounds = rw (rest-lent, length-drop) (omega (arith, parts)) }
 
 pub overflow_add-at : goal.overflow_add-at
 overflow_add-at c =
-    let start = c in
-    omega (arith, test-length (answer_at start.args.cells.now start.args.i))
+    omega (arith, test-length (answer_at c.args.cells.now c.args.i))
 
 pub returns : goal.returns
 unfolding test_part

@@ -4,5 +4,4 @@ use Rattle.capping.proofs.feeding.capping_fed_ask.Goals as goal
 
 pub returns : goal.returns
 returns c =
-    let asked = c in
-    fed-told _ c.told_by_test.ensures.value c.told_by_test.ensures.left_after asked.test_in-test.ensures asked.ask.ensures
+    fed-told _ c.told_by_test.ensures.value c.told_by_test.ensures.left_after c.test_in-test.ensures c.ask.ensures

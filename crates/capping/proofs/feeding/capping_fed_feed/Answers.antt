@@ -7,7 +7,5 @@ use Rattle.capping.proofs.feeding.capping_fed_feed.Goals as goal
 
 pub returns : goal.returns
 returns c =
-    let fed-on = c in
-    let given = fed-on in
-    let amount = given.args.amount in
-    c.lay_test.ensures ∙ ap fed_cells fed-on.feed.ensures ∙ ap (λ (t : FedTest). fed_cells (fed t amount)) given.test_in-test.ensures
+    let amount = c.args.amount in
+    c.lay_test.ensures ∙ ap fed_cells c.feed.ensures ∙ ap (λ (t : FedTest). fed_cells (fed t amount)) c.test_in-test.ensures

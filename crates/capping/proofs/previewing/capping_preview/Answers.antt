@@ -4,9 +4,6 @@ use Rattle.capping.proofs.previewing.capping_preview.Goals as goal
 
 pub returns : goal.returns
 returns c =
-    let laid = c in
-    let called = laid in
-    let preview = called in
-    let seen = preview.day_in-given.ensures in
-    let previews = preview.preview-previewed.ensures.previews in
-    record { preview_told = preview-told _ _ seen _ _ _ previews _ _ laid.show.ensures called.told_by_preview-told.ensures c.report_on.ensures; shown_right = shown-right _ _ seen _ _ _ previews _ _ laid.show.ensures called.told_by_preview-told.ensures }
+    let seen = c.day_in-given.ensures in
+    let previews = c.preview-previewed.ensures.previews in
+    record { preview_told = preview-told _ _ seen _ _ _ previews _ _ c.show.ensures c.told_by_preview-told.ensures c.report_on.ensures; shown_right = shown-right _ _ seen _ _ _ previews _ _ c.show.ensures c.told_by_preview-told.ensures }

@@ -4,5 +4,4 @@ use Rattle.capping.proofs.tidying.capping_tidy.Goals as goal
 
 pub returns : goal.returns
 returns c =
-    let told = c in
-    tidy-told told.tidy_numbered-tidied.ensures told.told_by_tidy.ensures c.report_on.ensures c.tidy_count.ensures
+    tidy-told c.tidy_numbered-tidied.ensures c.told_by_tidy.ensures c.report_on.ensures c.tidy_count.ensures

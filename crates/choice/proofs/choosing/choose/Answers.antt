@@ -33,9 +33,8 @@ offers-requires c = row_here _ _ c.requires.schedule_cells _ (omega arith)
 
 pub shown-requires : goal.shown-requires
 shown-requires c =
-    let start = c in
     let k = c.loop-left.left - 1 in
-    record { schedule_cells = start.requires.schedule_cells; rows_linked = start.requires.rows_linked; i_lt_n = omega arith; hour_le_last_hour = offered-hour _ _ _ _ c.offers.ensures c.if-offers.true (row_here _ _ start.requires.schedule_cells k (omega arith)).ranged }
+    record { schedule_cells = c.requires.schedule_cells; rows_linked = c.requires.rows_linked; i_lt_n = omega arith; hour_le_last_hour = offered-hour _ _ _ _ c.offers.ensures c.if-offers.true (row_here _ _ c.requires.schedule_cells k (omega arith)).ranged }
 
 pub kept-best-requires : goal.kept-best-requires
 kept-best-requires c = tt

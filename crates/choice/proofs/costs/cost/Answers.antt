@@ -30,13 +30,12 @@ overflow_mul-result c = omega (arith, (row_here _ _ c.requires.schedule_cells _ 
 
 pub overflow_add-result : goal.overflow_add-result
 overflow_add-result c =
-    let start = c in
-    let row = schedule_at start.args.cells.now start.args.s in
+    let row = schedule_at c.args.cells.now c.args.s in
     omega (
       arith,
-      (row_here _ _ start.requires.schedule_cells _ start.requires.s_lt_n).ranged.startup,
+      (row_here _ _ c.requires.schedule_cells _ c.requires.s_lt_n).ranged.startup,
       c.cell.ensures,
-      own-run-small row.unit start.args.hour row start.args.n start.args.cells.now start.requires.schedule_cells,
+      own-run-small row.unit c.args.hour row c.args.n c.args.cells.now c.requires.schedule_cells,
       c.run_cost.ensures,
     )
 

@@ -26,11 +26,11 @@ overflow_sub-k c = omega arith
 
 pub share-sum-requires : goal.share-sum-requires
 share-sum-requires c =
-    let start = c in let here = row_here _ _ start.requires.schedule_cells in
-    record { schedule_row_at = here _ start.requires.s_lt_n; schedule_row_at_2 = here _ (omega arith); hour_le_last_hour = start.requires.hour_le_last_hour }
+    let here = row_here _ _ c.requires.schedule_cells in
+    record { schedule_row_at = here _ c.requires.s_lt_n; schedule_row_at_2 = here _ (omega arith); hour_le_last_hour = c.requires.hour_le_last_hour }
 
 pub overflow_add-sum : goal.overflow_add-sum
-overflow_add-sum c = let start = c in let a = start.args in omega (arith, c.share-sum.ensures, run_fits a.n a.cells.now a.hour a.s _ _ _ start.requires.schedule_cells c.loop-left.invariant c.loop-left-test.true)
+overflow_add-sum c = let a = c.args in omega (arith, c.share-sum.ensures, run_fits a.n a.cells.now a.hour a.s _ _ _ c.requires.schedule_cells c.loop-left.invariant c.loop-left-test.true)
 
 pub link_at-left-requires-in-loop-left : goal.link_at-left-requires-in-loop-left
 link_at-left-requires-in-loop-left c = omega (arith, c.loop-left.invariant.leads.room)

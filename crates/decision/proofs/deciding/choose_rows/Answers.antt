@@ -39,13 +39,11 @@ slice_bounds-choose_row-end c = omega arith
 
 pub choose_row-requires : goal.choose_row-requires
 choose_row-requires c =
-    let start = c in
     let loop = c.loop-i in
-    record { schedule_cells = start.requires.schedule_cells; rows_linked = start.requires.rows_linked; answer_width_in_bounds = part_room _ _ _ _ _ _ _ loop.i loop.invariant (omega arith) _ refl }
+    record { schedule_cells = c.requires.schedule_cells; rows_linked = c.requires.rows_linked; answer_width_in_bounds = part_room _ _ _ _ _ _ _ loop.i loop.invariant (omega arith) _ refl }
 
 pub returns-then-not-choose_row : goal.returns-then-not-choose_row
-returns-then-not-choose_row c = let start = c in
-    let loop = c.loop-i in
+returns-then-not-choose_row c = let loop = c.loop-i in
     laying-without-cost _ _ _ _ _ _ _ loop.i loop.invariant (omega arith) _ refl _ c.day_kind-day.ensures c.choose_row.ensures (not_from_false _ c.if-not-choose_row.true) _
 
 pub overflow_add-i : goal.overflow_add-i
@@ -55,8 +53,7 @@ pub loop-i-smaller : goal.loop-i-smaller
 loop-i-smaller c = omega arith
 
 pub loop-i-preserved : goal.loop-i-preserved
-loop-i-preserved c = let start = c in
-    let loop = c.loop-i in
+loop-i-preserved c = let loop = c.loop-i in
     laying-next _ _ _ _ _ _ _ loop.i loop.invariant (omega arith) _ refl _ c.day_kind-day.ensures c.choose_row.ensures _ refl (not_from_true _ c.if-not-choose_row.false)
 
 pub returns : goal.returns

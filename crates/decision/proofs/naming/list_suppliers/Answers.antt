@@ -15,8 +15,7 @@ bounds-units-i c = omega (arith, c.requires.units_of.there)
 
 pub row_of-row-requires : goal.row_of-row-requires
 row_of-row-requires c =
-    let start = c in
-    record { supply_cells = start.requires.supply_cells; cells_value = unit-there _ _ _ _ start.requires.units_of (omega arith) }
+    record { supply_cells = c.requires.supply_cells; cells_value = unit-there _ _ _ _ c.requires.units_of (omega arith) }
 
 pub supplier-requires : goal.supplier-requires
 supplier-requires c = row-cells c.args.n _ _ c.requires.supply_cells c.row_of-row.ensures.within
@@ -31,7 +30,7 @@ pub loop-i-smaller : goal.loop-i-smaller
 loop-i-smaller c = omega arith
 
 pub loop-i-preserved : goal.loop-i-preserved
-loop-i-preserved c = let start = c in let loop = c.loop-i in (omega arith, filling-next _ _ _ _ loop.i _ (omega (arith, start.requires.units_of.there)) (omega (arith, start.requires.k_in_bounds)) (c.supplier.ensures ∙ ap (λ (r : SupplyRow). r.supplier) c.row_of-row.ensures.found) loop.invariant.1)
+loop-i-preserved c = let loop = c.loop-i in (omega arith, filling-next _ _ _ _ loop.i _ (omega (arith, c.requires.units_of.there)) (omega (arith, c.requires.k_in_bounds)) (c.supplier.ensures ∙ ap (λ (r : SupplyRow). r.supplier) c.row_of-row.ensures.found) loop.invariant.1)
 
 pub returns : goal.returns
 returns c = let units = c.requires.units_of in let loop = c.loop-i in rw (← units.listed) (filling-over _ _ _ _ loop.i _ (omega arith) units.there loop.invariant.1)

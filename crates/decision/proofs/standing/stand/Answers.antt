@@ -12,12 +12,10 @@ returns-then-eligible_supply-need c = stands-short _ _ _ _ c.eligible_supply.ens
 
 pub add_amounts-requires : goal.add_amounts-requires
 add_amounts-requires c =
-    let start = c in
     let enough = is-enough _ _ _ _ c.eligible_supply.ensures c.need_of-need.ensures (omega arith) in
-    let few = count-few _ _ _ start.requires.market_cells enough _ _ _ _ [] [] _ c.need_of-need.ensures c.clearing_row-row.ensures c.list_parties-count.ensures in
-    record { supply_cells = start.requires.market_cells.rows; clearing_lt_n = clears-inside _ _ _ start.requires.market_cells enough _ _ _ _ [] [] _ c.need_of-need.ensures c.clearing_row-row.ensures c.list_parties-count.ensures; count_in_bounds = omega arith; count_in_bounds_2 = omega arith }
+    let few = count-few _ _ _ c.requires.market_cells enough _ _ _ _ [] [] _ c.need_of-need.ensures c.clearing_row-row.ensures c.list_parties-count.ensures in
+    record { supply_cells = c.requires.market_cells.rows; clearing_lt_n = clears-inside _ _ _ c.requires.market_cells enough _ _ _ _ [] [] _ c.need_of-need.ensures c.clearing_row-row.ensures c.list_parties-count.ensures; count_in_bounds = omega arith; count_in_bounds_2 = omega arith }
 
 pub returns : goal.returns
-returns c = let start = c in
-    let enough = is-enough _ _ _ _ c.eligible_supply.ensures c.need_of-need.ensures (omega arith) in
-    stands-cleared _ _ _ start.requires.market_cells enough _ _ _ _ _ _ _ c.need_of-need.ensures c.clearing_row-row.ensures c.list_parties-count.ensures c.add_amounts.ensures
+returns c = let enough = is-enough _ _ _ _ c.eligible_supply.ensures c.need_of-need.ensures (omega arith) in
+    stands-cleared _ _ _ c.requires.market_cells enough _ _ _ _ _ _ _ c.need_of-need.ensures c.clearing_row-row.ensures c.list_parties-count.ensures c.add_amounts.ensures

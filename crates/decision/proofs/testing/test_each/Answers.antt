@@ -13,8 +13,7 @@ bounds-units-i c = omega (arith, c.requires.units_of.there)
 
 pub test_unit-test-requires : goal.test_unit-test-requires
 test_unit-test-requires c =
-    let start = c in
-    record { market_cells = start.requires.market_cells; stands = start.requires.stands; cells_value = unit-there _ _ _ _ start.requires.units_of (omega arith) }
+    record { market_cells = c.requires.market_cells; stands = c.requires.stands; cells_value = unit-there _ _ _ _ c.requires.units_of (omega arith) }
 
 pub offset_bounds-tests-i : goal.offset_bounds-tests-i
 offset_bounds-tests-i c = omega (arith, c.requires.units_of.few)
@@ -29,9 +28,8 @@ pub loop-i-smaller : goal.loop-i-smaller
 loop-i-smaller c = omega arith
 
 pub loop-i-preserved : goal.loop-i-preserved
-loop-i-preserved c = let start = c in
-    let loop = c.loop-i in
-    let units = start.requires.units_of in
+loop-i-preserved c = let loop = c.loop-i in
+    let units = c.requires.units_of in
     (omega arith, loop.invariant.1, filling-next _ _ _ _ loop.i _ (omega (arith, units.there)) (omega (arith, loop.invariant.1, units.few)) c.test_unit-test.ensures loop.invariant.2)
 
 pub returns : goal.returns

@@ -16,9 +16,7 @@ slice_bounds-test_in_market-end-in-Cleared c = (parties-reach _ _ _ _ c.requires
 
 pub test_in_market-requires : goal.test_in_market-requires
 test_in_market-requires c =
-    let start = c in
-    record { market_cells = start.requires.market_cells; unit_found = c.row_of-row.ensures; in_market = lent-market _ _ _ _ start.requires.stands c.in-Cleared.is (c.in-Cleared.count - 0) (omega arith) }
+    record { market_cells = c.requires.market_cells; unit_found = c.row_of-row.ensures; in_market = lent-market _ _ _ _ c.requires.stands c.in-Cleared.is (c.in-Cleared.count - 0) (omega arith) }
 
 pub returns-in-Short : goal.returns-in-Short
-returns-in-Short c = let start = c in
-    test_short _ _ _ _ c.row_of-row.ensures.found _ c.supplier.ensures (was-short _ _ _ _ start.requires.stands c.in-Short.is) _ (eligible-wanted _ _ _ _ _ c.has_wanted.ensures)
+returns-in-Short c = test_short _ _ _ _ c.row_of-row.ensures.found _ c.supplier.ensures (was-short _ _ _ _ c.requires.stands c.in-Short.is) _ (eligible-wanted _ _ _ _ _ c.has_wanted.ensures)

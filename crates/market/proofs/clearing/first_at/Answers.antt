@@ -11,8 +11,7 @@ loop-row-init c = trying-none _ _ _
 
 pub is_at-requires : goal.is_at-requires
 is_at-requires c =
-    let start = c in
-    record { supply_row_at = row-cells _ _ _ start.requires.supply_cells (omega arith); supply_row_at_2 = row-cells _ _ _ start.requires.supply_cells start.requires.limit_lt_n }
+    record { supply_row_at = row-cells _ _ _ c.requires.supply_cells (omega arith); supply_row_at_2 = row-cells _ _ _ c.requires.supply_cells c.requires.limit_lt_n }
 
 pub returns-then-is_at : goal.returns-then-is_at
 unfolding first_at

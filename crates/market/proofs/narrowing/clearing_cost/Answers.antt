@@ -23,5 +23,4 @@ loop-turn-preserved c = let loop = c.loop-turn in
     searching-next _ _ _ _ loop.turn _ loop.bounds _ (omega arith) loop.invariant c.narrowed-bounds.ensures
 
 pub returns : goal.returns
-returns c = let start = c in
-    searching-over _ _ _ _ start.requires.supply_cells start.requires.need_nonzero c.loop-turn.turn c.loop-turn.bounds (omega arith) c.loop-turn.invariant
+returns c = searching-over _ _ _ _ c.requires.supply_cells c.requires.need_nonzero c.loop-turn.turn c.loop-turn.bounds (omega arith) c.loop-turn.invariant

@@ -9,13 +9,11 @@ use Rattle.market.proofs.narrowing.is_cheaper.Goals as goal
 
 pub cost_beside-requires : goal.cost_beside-requires
 cost_beside-requires c =
-    let start = c in
-    record { supply_row_at = row-cells _ _ _ start.requires (omega arith); supply_row_at_2 = row-cells _ _ _ start.requires (omega arith) }
+    record { supply_row_at = row-cells _ _ _ c.requires (omega arith); supply_row_at_2 = row-cells _ _ _ c.requires (omega arith) }
 
 pub cost_beside-requires-then-other-n : goal.cost_beside-requires-then-other-n
 cost_beside-requires-then-other-n c =
-    let start = c in
-    record { supply_row_at = row-cells _ _ _ start.requires (omega arith); supply_row_at_2 = row-cells _ _ _ start.requires (omega arith) }
+    record { supply_row_at = row-cells _ _ _ c.requires (omega arith); supply_row_at_2 = row-cells _ _ _ c.requires (omega arith) }
 
 pub returns-then-other-n : goal.returns-then-other-n
 unfolding cheaper below

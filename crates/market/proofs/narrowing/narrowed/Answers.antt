@@ -14,19 +14,16 @@ returns-then-not-is_between c = narrows-not _ _ _ _ _ c.requires.bounding _ (λ 
 
 pub supply_of-requires : goal.supply_of-requires
 supply_of-requires c =
-    let start = c in
-    record { supply_cells = start.requires.supply_cells; part_cells = row-cells _ _ _ start.requires.supply_cells (omega arith) }
+    record { supply_cells = c.requires.supply_cells; part_cells = row-cells _ _ _ c.requires.supply_cells (omega arith) }
 
 pub returns-then-supply_of-need : goal.returns-then-supply_of-need
 unfolding in_part
-returns-then-supply_of-need c = let start = c in
-    narrows-low _ _ _ _ _ start.requires.bounding _
+returns-then-supply_of-need c = narrows-low _ _ _ _ _ c.requires.bounding _
     (sym c.is_between.ensures ∙ c.if-not-is_between.false)
     _ c.supply_of.ensures (omega arith) (omega arith)
 
 pub returns : goal.returns
 unfolding in_part
-returns c = let start = c in
-    narrows-high _ _ _ _ _ start.requires.bounding _
+returns c = narrows-high _ _ _ _ _ c.requires.bounding _
     (sym c.is_between.ensures ∙ c.if-not-is_between.false)
     _ c.supply_of.ensures (omega arith) (omega arith)

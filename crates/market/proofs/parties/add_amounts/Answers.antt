@@ -15,8 +15,7 @@ bounds-parties-i c = omega arith
 
 pub supply_of-requires : goal.supply_of-requires
 supply_of-requires c =
-    let start = c in
-    record { supply_cells = start.requires.supply_cells; part_cells = row-cells start.args.n _ _ start.requires.supply_cells (omega arith) }
+    record { supply_cells = c.requires.supply_cells; part_cells = row-cells c.args.n _ _ c.requires.supply_cells (omega arith) }
 
 pub bounds-out-i : goal.bounds-out-i
 bounds-out-i c = omega arith
@@ -29,15 +28,13 @@ loop-i-smaller c = omega arith
 
 pub loop-i-preserved : goal.loop-i-preserved
 unfolding amount_of in_part
-loop-i-preserved c = let start = c in
-    let loop = c.loop-i in
-    (omega arith, filling-next _ start.args.parties.now _ _ loop.i _ (omega arith) (omega arith) c.supply_of.ensures loop.invariant.1)
+loop-i-preserved c = let loop = c.loop-i in
+    (omega arith, filling-next _ c.args.parties.now _ _ loop.i _ (omega arith) (omega arith) c.supply_of.ensures loop.invariant.1)
 
 pub shape_of-out : goal.shape_of-out
 shape_of-out c = c.loop-i.invariant.1.same_length
 
 pub returns : goal.returns
-returns c = let start = c in
-    let loop = c.loop-i in
-    let all : loop.i ≡ start.args.count = omega arith in
+returns c = let loop = c.loop-i in
+    let all : loop.i ≡ c.args.count = omega arith in
     rw all at loop.invariant.1.filled

@@ -4,13 +4,11 @@ use Rattle.market.proofs.parts.is_in.Goals as goal
 
 pub is_up_to-requires : goal.is_up_to-requires
 is_up_to-requires c =
-    let start = c in
-    record { supply_row_at = start.requires.supply_row_at; supply_row_at_2 = rw c.in-UpTo.is at start.requires.part_cells }
+    record { supply_row_at = c.requires.supply_row_at; supply_row_at_2 = rw c.in-UpTo.is at c.requires.part_cells }
 
 pub is_relevant_of-requires : goal.is_relevant_of-requires
 is_relevant_of-requires c =
-    let start = c in
-    record { supply_row_at = start.requires.supply_row_at; supply_row_at_2 = rw c.in-RelevantOf.is at start.requires.part_cells }
+    record { supply_row_at = c.requires.supply_row_at; supply_row_at_2 = rw c.in-RelevantOf.is at c.requires.part_cells }
 
 pub returns-in-Eligible : goal.returns-in-Eligible
 unfolding in_part

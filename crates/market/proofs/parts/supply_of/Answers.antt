@@ -9,8 +9,7 @@ loop-row-init c = adding-none _ _ _
 
 pub supply_in-sum-requires : goal.supply_in-sum-requires
 supply_in-sum-requires c =
-    let start = c in
-    record { supply_row_at = row-cells start.args.n _ _ start.requires.supply_cells (omega arith); part_cells = start.requires.part_cells }
+    record { supply_row_at = row-cells c.args.n _ _ c.requires.supply_cells (omega arith); part_cells = c.requires.part_cells }
 
 pub overflow_add-sum : goal.overflow_add-sum
 overflow_add-sum c = let loop = c.loop-row in

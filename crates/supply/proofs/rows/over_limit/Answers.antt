@@ -42,18 +42,15 @@ overflow_add-result c = omega arith
 
 pub shape_of-units-then-too_many : goal.shape_of-units-then-too_many
 shape_of-units-then-too_many c =
-    let l = c in
-    l.insert-unit_count.auto.out ∙ l.loop-k.invariant.units-run.same_length
+    c.insert-unit_count.auto.out ∙ c.loop-k.invariant.units-run.same_length
 
 pub shape_of-suppliers-then-too_many : goal.shape_of-suppliers-then-too_many
 shape_of-suppliers-then-too_many c =
-    let l = c in
-    l.insert-supplier_count.auto.out ∙ l.loop-k.invariant.suppliers-run.same_length
+    c.insert-supplier_count.auto.out ∙ c.loop-k.invariant.suppliers-run.same_length
 
 pub returns-then-too_many : goal.returns-then-too_many
 returns-then-too_many c =
-    let l = c in
-    counting-here _ _ _ _ _ _ _ _ _ _ _ _ _ l.loop-k.invariant (omega arith) l.insert-unit_count.ensures
+    counting-here _ _ _ _ _ _ _ _ _ _ _ _ _ c.loop-k.invariant (omega arith) c.insert-unit_count.ensures
     c.insert-supplier_count.ensures
     (sym c.too_many.ensures ∙ c.if-too_many.true)
 
@@ -65,10 +62,9 @@ loop-k-smaller c = omega arith
 
 pub loop-k-preserved : goal.loop-k-preserved
 loop-k-preserved c =
-    let l = c in
-    counting-next _ _ _ _ _ _ _ _ _ _ _ _ _ l.loop-k.invariant (omega arith) l.insert-unit_count.ensures
+    counting-next _ _ _ _ _ _ _ _ _ _ _ _ _ c.loop-k.invariant (omega arith) c.insert-unit_count.ensures
     c.insert-supplier_count.ensures
-    l.insert-unit_count.auto.out
+    c.insert-unit_count.auto.out
     c.insert-supplier_count.auto.out
     (sym c.too_many.ensures ∙ c.if-too_many.false)
 

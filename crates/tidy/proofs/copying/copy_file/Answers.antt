@@ -12,5 +12,4 @@ write_file-requires c = leb-true _ _ (sym c.fits.ensures ∙ c.if-not-fits.false
 
 pub returns : goal.returns
 returns c =
-    let asked = c in
-    text-written _ _ (sym asked.fits.ensures ∙ asked.if-not-fits.false) c.write_file.ensures
+    text-written _ _ (sym c.fits.ensures ∙ c.if-not-fits.false) c.write_file.ensures

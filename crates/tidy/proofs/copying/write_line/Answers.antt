@@ -16,8 +16,7 @@ bounds-s-i c = omega arith
 
 pub bounds-out-at : goal.bounds-out-at
 bounds-out-at c =
-    let now = c in
-    byte-room _ _ now.requires (omega arith) (λ e. omega arith) now.loop-i.invariant.0
+    byte-room _ _ c.requires (omega arith) (λ e. omega arith) c.loop-i.invariant.0
 
 pub overflow_add-at : goal.overflow_add-at
 overflow_add-at c = omega (arith, bounds-out-at c)
@@ -33,29 +32,27 @@ shape_of-out-then-b-eq-LF c =
 
 pub returns-then-b-eq-LF : goal.returns-then-b-eq-LF
 returns-then-b-eq-LF c =
-    let now = c in
     line-written
     (elim c.if-b-ne-DQUOTE.branch [
       | then-b-ne-DQUOTE w ↦
-          rw (w.out-is, w.at-is) (byte-written _ _ now.requires (omega arith) (λ e. omega (arith, w.if-b-ne-DQUOTE.true)) now.loop-i.invariant.0)
-      | else-b-ne-DQUOTE w ↦ rw (w.out-is, w.at-is) (quote-passed _ _ now.requires (omega arith) w.if-b-ne-DQUOTE.false now.loop-i.invariant.0)
+          rw (w.out-is, w.at-is) (byte-written _ _ c.requires (omega arith) (λ e. omega (arith, w.if-b-ne-DQUOTE.true)) c.loop-i.invariant.0)
+      | else-b-ne-DQUOTE w ↦ rw (w.out-is, w.at-is) (quote-passed _ _ c.requires (omega arith) w.if-b-ne-DQUOTE.false c.loop-i.invariant.0)
     ])
-    (seeking-found now.loop-i.invariant.1 (omega arith) (omega (arith, c.if-b-eq-LF.true)))
+    (seeking-found c.loop-i.invariant.1 (omega arith) (omega (arith, c.if-b-eq-LF.true)))
 
 pub loop-i-smaller : goal.loop-i-smaller
 loop-i-smaller c = omega arith
 
 pub loop-i-preserved : goal.loop-i-preserved
-loop-i-preserved c =
-    let now = c in (
-      elim c.if-b-ne-DQUOTE.branch [
-        | then-b-ne-DQUOTE w ↦
-            rw (w.out-is, w.at-is) (byte-written _ _ now.requires (omega arith) (λ e. omega (arith, w.if-b-ne-DQUOTE.true)) now.loop-i.invariant.0)
-        | else-b-ne-DQUOTE w ↦
-            rw (w.out-is, w.at-is) (quote-passed _ _ now.requires (omega arith) w.if-b-ne-DQUOTE.false now.loop-i.invariant.0)
-      ],
-      seeking-next now.loop-i.invariant.1 (omega arith) c.if-b-eq-LF.false,
-    )
+loop-i-preserved c = (
+  elim c.if-b-ne-DQUOTE.branch [
+    | then-b-ne-DQUOTE w ↦
+        rw (w.out-is, w.at-is) (byte-written _ _ c.requires (omega arith) (λ e. omega (arith, w.if-b-ne-DQUOTE.true)) c.loop-i.invariant.0)
+    | else-b-ne-DQUOTE w ↦
+        rw (w.out-is, w.at-is) (quote-passed _ _ c.requires (omega arith) w.if-b-ne-DQUOTE.false c.loop-i.invariant.0)
+  ],
+  seeking-next c.loop-i.invariant.1 (omega arith) c.if-b-eq-LF.false,
+)
 
 pub shape_of-out : goal.shape_of-out
 shape_of-out c = c.loop-i.invariant.0.same_length

@@ -10,27 +10,22 @@ loop-rest-init c = lines_none _ _
 
 pub slice_bounds-write_line-count : goal.slice_bounds-write_line-count
 slice_bounds-write_line-count c =
-    let now = c in
-    omega (arith, lines-room now.loop-rest.invariant now.requires)
+    omega (arith, lines-room c.loop-rest.invariant c.requires)
 
 pub slice_bounds-write_line-start : goal.slice_bounds-write_line-start
 slice_bounds-write_line-start c =
-    let now = c in
-    omega (arith, lines-room now.loop-rest.invariant now.requires)
+    omega (arith, lines-room c.loop-rest.invariant c.requires)
 
 pub slice_bounds-write_line-end : goal.slice_bounds-write_line-end
 slice_bounds-write_line-end c = omega arith
 
 pub write_line-line-requires : goal.write_line-line-requires
 write_line-line-requires c =
-    let now = c in
-    rw (rest-lent, length-drop) (omega (arith, lines-room now.loop-rest.invariant now.requires))
+    rw (rest-lent, length-drop) (omega (arith, lines-room c.loop-rest.invariant c.requires))
 
 pub overflow_add-at : goal.overflow_add-at
 overflow_add-at c =
-    let written = c in
-    let now = written in
-    omega (arith, line-room now.loop-rest.invariant now.requires written.write_line-line.ensures)
+    omega (arith, line-room c.loop-rest.invariant c.requires c.write_line-line.ensures)
 
 pub slice_bounds-rest-count : goal.slice_bounds-rest-count
 slice_bounds-rest-count c = omega (arith, line_read c.write_line-line.ensures)
@@ -46,9 +41,7 @@ loop-rest-smaller c = line-fewer c.write_line-line.ensures (omega arith)
 
 pub loop-rest-preserved : goal.loop-rest-preserved
 loop-rest-preserved c =
-    let written = c in
-    let now = written in
-    lines_next now.loop-rest.invariant now.requires written.write_line-line.ensures
+    lines_next c.loop-rest.invariant c.requires c.write_line-line.ensures
 
 pub shape_of-out : goal.shape_of-out
 shape_of-out c = c.loop-rest.invariant.same_length

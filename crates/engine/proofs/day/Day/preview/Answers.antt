@@ -15,8 +15,7 @@ returns-in-Refused c =
 
 pub returns-in-Rows : goal.returns-in-Rows
 returns-in-Rows c =
-    let matched = c in
-    let laid = matched.decide-deciding.ensures.decides _ _ matched.in-Rows.is in
+    let laid = c.decide-deciding.ensures.decides _ _ c.in-Rows.is in
     let answered = c.looked_at-in-Rows.ensures ∙ ap (looked_at _) c.row_for.ensures in
     let previews = preview-answered _ _ _ _ laid.accepted _ laid.laid answered in
     record { previews = previews; previews_right = previews-right _ _ _ _ previews }

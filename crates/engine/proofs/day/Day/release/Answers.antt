@@ -10,20 +10,15 @@ place_of-at-requires c = few-units _ (sym c.is_formed.ensures ∙ c.if-is_formed
 
 pub without_place-requires : goal.without_place-requires
 without_place-requires c =
-    let tested = c in
-    record { count_le_most_running = few-units _ (sym tested.is_formed.ensures ∙ tested.if-is_formed.true); at_lt_count = omega arith }
+    record { count_le_most_running = few-units _ (sym c.is_formed.ensures ∙ c.if-is_formed.true); at_lt_count = omega arith }
 
 pub returns-then-at-units : goal.returns-then-at-units
 returns-then-at-units c =
-    let placed = c in
-    let tested = placed in
-    releases _ _ _ placed.place_of-at.result (sym tested.is_formed.ensures ∙ tested.if-is_formed.true) placed.place_of-at.ensures (omega arith) c.without_place.ensures
+    releases _ _ _ c.place_of-at.result (sym c.is_formed.ensures ∙ c.if-is_formed.true) c.place_of-at.ensures (omega arith) c.without_place.ensures
 
 pub returns-else-at-units : goal.returns-else-at-units
 returns-else-at-units c =
-    let placed = c in
-    let tested = placed in
-    refuses-23 _ _ placed.place_of-at.result _ (sym tested.is_formed.ensures ∙ tested.if-is_formed.true) placed.place_of-at.ensures (omega arith) c.refused.ensures
+    refuses-23 _ _ c.place_of-at.result _ (sym c.is_formed.ensures ∙ c.if-is_formed.true) c.place_of-at.ensures (omega arith) c.refused.ensures
 
 pub returns-else-is_formed : goal.returns-else-is_formed
 returns-else-is_formed c =

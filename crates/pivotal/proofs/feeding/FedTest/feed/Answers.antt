@@ -9,17 +9,14 @@ returns-then-not-takes c = fed-past _ _ (sym c.takes.ensures ∙ c.if-not-takes.
 
 pub overflow_add-count : goal.overflow_add-count
 overflow_add-count c =
-    let left = c in
-    omega (arith, taken-within _ _ (sym left.takes.ensures ∙ left.if-not-takes.false))
+    omega (arith, taken-within _ _ (sym c.takes.ensures ∙ c.if-not-takes.false))
 
 pub overflow_add-total : goal.overflow_add-total
 overflow_add-total c =
-    let left = c in
-    let args = left.args in
-    let within = taken-within args.self args.amount (sym left.takes.ensures ∙ left.if-not-takes.false) in
+    let args = c.args in
+    let within = taken-within args.self args.amount (sym c.takes.ensures ∙ c.if-not-takes.false) in
     omega (arith, within, other-small args.self args.amount, c.other-other.ensures)
 
 pub returns : goal.returns
 returns c =
-    let left = c in
-    fed-taken _ _ (sym left.takes.ensures ∙ left.if-not-takes.false) _ _ c.other-other.ensures c.with.ensures
+    fed-taken _ _ (sym c.takes.ensures ∙ c.if-not-takes.false) _ _ c.other-other.ensures c.with.ensures

@@ -10,20 +10,18 @@ use Rattle.running.proofs.units.Units.merged.Goals as goal
 
 pub loop-self-init : goal.loop-self-init
 loop-self-init c =
-    let start = c in
-    merging-none _ _ _ (search (rules, mapped)) (fits-few _ _ start.requires.self_value start.requires.fits)
+    merging-none _ _ _ (search (rules, mapped)) (fits-few _ _ c.requires.self_value c.requires.fits)
 
 pub is_left-requires : goal.is_left-requires
 is_left-requires c = tt
 
 pub turn-turn-requires : goal.turn-turn-requires
 turn-turn-requires c =
-    let start = c in
     let loop = c.loop-self in
-    let units = counted start.args.self in
-    let choices = counted start.args.chosen in
+    let units = counted c.args.self in
+    let choices = counted c.args.chosen in
     let left = some_left _ _ _ _ (sym c.is_left.ensures ∙ c.loop-self-test.true) (omega arith) (omega arith) in
-    record { count_le_most_running = formed-few _ start.requires.self_value; count_le_most_running_2 = start.requires.count_le_most_running; fits = start.requires.fits; i_le_count = (omega arith, omega arith, omega arith) }
+    record { count_le_most_running = formed-few _ c.requires.self_value; count_le_most_running_2 = c.requires.count_le_most_running; fits = c.requires.fits; i_le_count = (omega arith, omega arith, omega arith) }
 
 pub offset_bounds-running-count : goal.offset_bounds-running-count
 offset_bounds-running-count c = omega (arith, merging-room _ _ _ _ _ _ c.loop-self.invariant _ c.turn-turn.ensures)
@@ -36,20 +34,17 @@ overflow_add-count c = omega (arith, merging-room _ _ _ _ _ _ c.loop-self.invari
 
 pub overflow_add-i : goal.overflow_add-i
 overflow_add-i c =
-    let start = c in
-    omega (arith, c.turn-turn.ensures.running-upto, counted start.args.self, formed-few _ start.requires.self_value)
+    omega (arith, c.turn-turn.ensures.running-upto, counted c.args.self, formed-few _ c.requires.self_value)
 
 pub overflow_add-j : goal.overflow_add-j
 overflow_add-j c =
-    let start = c in
-    omega (arith, c.turn-turn.ensures.chosen-upto, counted start.args.chosen)
+    omega (arith, c.turn-turn.ensures.chosen-upto, counted c.args.chosen)
 
 pub loop-self-smaller : goal.loop-self-smaller
 loop-self-smaller c =
-    let start = c in
     let turn = c.turn-turn.ensures in
-    let units = counted start.args.self in
-    let choices = counted start.args.chosen in
+    let units = counted c.args.self in
+    let choices = counted c.args.chosen in
     omega (arith, turn.running-upto, turn.chosen-upto, turn.goes_on)
 
 pub loop-self-preserved : goal.loop-self-preserved
@@ -59,9 +54,8 @@ loop-self-preserved c =
 pub returns : goal.returns
 unfolding units_of
 returns c =
-    let start = c in
     let loop = c.loop-self in
-    let units = counted start.args.self in
-    let choices = counted start.args.chosen in
+    let units = counted c.args.self in
+    let choices = counted c.args.chosen in
     let done = none_left _ _ _ _ (sym c.is_left.ensures ∙ c.loop-self-test.false) in
     merging-over _ _ _ _ _ _ loop.invariant (omega arith) (omega arith)

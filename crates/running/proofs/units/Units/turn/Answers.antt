@@ -14,10 +14,9 @@ pub bounds-chosen-j : goal.bounds-chosen-j
 bounds-chosen-j c = omega arith
 
 pub returns-then-i-self : goal.returns-then-i-self
-returns-then-i-self c = let start = c in
-    let places : length start.args.self.running ≡ 64 = search (rules, mapped) in
-    let rooms : length start.args.chosen.running ≡ 64 = search (rules, mapped) in
-    choice-alone _ _ _ _ start.requires.fits (omega arith) (omega arith) (omega arith)
+returns-then-i-self c = let places : length c.args.self.running ≡ 64 = search (rules, mapped) in
+    let rooms : length c.args.chosen.running ≡ 64 = search (rules, mapped) in
+    choice-alone _ _ _ _ c.requires.fits (omega arith) (omega arith) (omega arith)
 
 pub offset_bounds-self-i : goal.offset_bounds-self-i
 offset_bounds-self-i c = omega arith
@@ -26,10 +25,9 @@ pub bounds-self-i : goal.bounds-self-i
 bounds-self-i c = omega arith
 
 pub returns-then-j-chosen : goal.returns-then-j-chosen
-returns-then-j-chosen c = let start = c in
-    let places : length start.args.self.running ≡ 64 = search (rules, mapped) in
-    let rooms : length start.args.chosen.running ≡ 64 = search (rules, mapped) in
-    unit-alone _ _ _ _ start.requires.fits (omega arith) (omega arith) (omega arith)
+returns-then-j-chosen c = let places : length c.args.self.running ≡ 64 = search (rules, mapped) in
+    let rooms : length c.args.chosen.running ≡ 64 = search (rules, mapped) in
+    unit-alone _ _ _ _ c.requires.fits (omega arith) (omega arith) (omega arith)
 
 pub offset_bounds-chosen-j-2 : goal.offset_bounds-chosen-j-2
 offset_bounds-chosen-j-2 c = omega arith
@@ -38,19 +36,16 @@ pub bounds-chosen-j-2 : goal.bounds-chosen-j-2
 bounds-chosen-j-2 c = omega arith
 
 pub returns-then-r-c : goal.returns-then-r-c
-returns-then-r-c c = let start = c in
-    let places : length start.args.self.running ≡ 64 = search (rules, mapped) in
-    let rooms : length start.args.chosen.running ≡ 64 = search (rules, mapped) in
-    unit-first _ _ _ _ start.requires.fits (omega arith) (omega arith) (omega arith) (omega arith) (omega arith)
+returns-then-r-c c = let places : length c.args.self.running ≡ 64 = search (rules, mapped) in
+    let rooms : length c.args.chosen.running ≡ 64 = search (rules, mapped) in
+    unit-first _ _ _ _ c.requires.fits (omega arith) (omega arith) (omega arith) (omega arith) (omega arith)
 
 pub returns-then-r-c-2 : goal.returns-then-r-c-2
-returns-then-r-c-2 c = let start = c in
-    let places : length start.args.self.running ≡ 64 = search (rules, mapped) in
-    let rooms : length start.args.chosen.running ≡ 64 = search (rules, mapped) in
-    both _ _ _ _ start.requires.fits (omega arith) (omega arith) (omega arith) (omega arith) (omega arith)
+returns-then-r-c-2 c = let places : length c.args.self.running ≡ 64 = search (rules, mapped) in
+    let rooms : length c.args.chosen.running ≡ 64 = search (rules, mapped) in
+    both _ _ _ _ c.requires.fits (omega arith) (omega arith) (omega arith) (omega arith) (omega arith)
 
 pub returns : goal.returns
-returns c = let start = c in
-    let places : length start.args.self.running ≡ 64 = search (rules, mapped) in
-    let rooms : length start.args.chosen.running ≡ 64 = search (rules, mapped) in
-    choice-first _ _ _ _ start.requires.fits (omega arith) (omega arith) (omega arith) (omega arith) (omega arith)
+returns c = let places : length c.args.self.running ≡ 64 = search (rules, mapped) in
+    let rooms : length c.args.chosen.running ≡ 64 = search (rules, mapped) in
+    choice-first _ _ _ _ c.requires.fits (omega arith) (omega arith) (omega arith) (omega arith) (omega arith)

@@ -16,9 +16,8 @@ newcomer-total-requires c = c.requires.count_le_most_running
 
 pub overflow_add-total : goal.overflow_add-total
 overflow_add-total c =
-    let start = c in
     let loop = c.loop-i in
-    omega (arith, counted start.args.self, newcomers-most _ _ _ c.newcomer-total.ensures)
+    omega (arith, counted c.args.self, newcomers-most _ _ _ c.newcomer-total.ensures)
 
 pub overflow_add-i : goal.overflow_add-i
 overflow_add-i c = omega arith

@@ -1,5 +1,6 @@
 -- The chain that is followed is the chain of `Chain`: the parent that is found, the records whose own chain comes back, and
 -- the head. Assumes nothing.
+use Rattle.std.specs.Prelude.{None, Option, Some, option_map, unwrap_or}
 use Prim.Native.Nat.{ℕ, zero, suc, ◌+◌, ◌≤◌, ◌<◌}
 use mathlib.Core.Path.{◌≡◌, refl, sym, ◌∙◌, ap}
 use mathlib.Core.Logic.{◌⊎◌, inl, inr, ⊎_elim, ◌↔◌}
@@ -9,7 +10,6 @@ use mathlib.Core.List.Memᴰ.{head as here}
 use mathlib.Core.List.Memᴰ.{not-nil as among_none}
 use mathlib.Core.List.Memᴰ.{tail as later}
 use mathlib.Core.List.{List, [], ◌∷◌, Memᴰ as Among}
-use mathlib.Core.Option.{Option, none, some, map, get_or}
 use native.Mathlib.Omega.{arith}
 use lib.Dec.{eqb}
 use lib.ListN.{length, take, drop}
@@ -28,7 +28,7 @@ use Rattle.affiliates.specs.Chain.{Names, Leads, Leads.there, Leads.step, Chain,
 
 -- where 35 is kept a supplier has one record at most
 one-record :
-    {ps : List ParentRow} → given_twice ps ≡ none → {r e : ParentRow} → Among r ps → Among e ps → r.supplier ≡ e.supplier → r ≡ e
+    {ps : List ParentRow} → given_twice ps ≡ None → {r e : ParentRow} → Among r ps → Among e ps → r.supplier ≡ e.supplier → r ≡ e
 unfolding given_twice same_supplier
 one-record once {r} {e} m n s = go (agree same_supplier 1 once m n)
   where
@@ -38,7 +38,7 @@ one-record once {r} {e} m n s = go (agree same_supplier 1 once m n)
     go (before o) = absurd (eqb-false e.supplier r.supplier o (sym s))
 
 -- and one parent
-pub one_parent : {ps : List ParentRow} → given_twice ps ≡ none → {s p q : ℕ} → Names ps s p → Names ps s q → p ≡ q
+pub one_parent : {ps : List ParentRow} → given_twice ps ≡ None → {s p q : ℕ} → Names ps s p → Names ps s q → p ≡ q
 one_parent once m n =
     let one = one-record once m.a-row n.a-row (m.its-supplier ∙ sym n.its-supplier) in
     sym m.its-parent ∙ rw one n.its-parent
@@ -48,7 +48,7 @@ its s r = eqb r.supplier s
 
 -- the search for a supplier's parent finds a record that names it, and misses none
 module _ {s : ℕ} where
-  pub names : {ps : List ParentRow} {p : ℕ} → parent_of ps s ≡ some p → Names ps s p
+  pub names : {ps : List ParentRow} {p : ℕ} → parent_of ps s ≡ Some p → Names ps s p
   unfolding parent_of find
   names {ps = []} e = some-none (sym e)
   names {ps = r ∷ ps} {p} e = go (its s r) refl e names
@@ -59,24 +59,24 @@ module _ {s : ℕ} where
 
       go :
           (t : Bool) → its s r ≡ t →
-          map (λ (r : ParentRow). r.parent) (cond t (some r) (find (its s) ps)) ≡ some p →
-          (parent_of ps s ≡ some p → Names ps s p) → Names (r ∷ ps) s p
+          option_map (λ (r : ParentRow). r.parent) (cond t (Some r) (find (its s) ps)) ≡ Some p →
+          (parent_of ps s ≡ Some p → Names ps s p) → Names (r ∷ ps) s p
       go true f e more =
           record { row = r; a-row = here refl; its-supplier = eqb-true r.supplier s f; its-parent = cc }
       go false f e more = behind (more e)
 
-  pub unnamed : {ps : List ParentRow} → parent_of ps s ≡ none → (p : ℕ) → Names ps s p → ⊥
+  pub unnamed : {ps : List ParentRow} → parent_of ps s ≡ None → (p : ℕ) → Names ps s p → ⊥
   unfolding parent_of
   unnamed {ps} e p n =
       let nothing = option-map-none (λ (r : ParentRow). r.parent) (find (its s) ps) e in
       eqb-false n.row.supplier s (none_found (its s) nothing n.a-row) n.its-supplier
 
-  pub named : {ps : List ParentRow} {p : ℕ} → Names ps s p → given_twice ps ≡ none → parent_of ps s ≡ some p
+  pub named : {ps : List ParentRow} {p : ℕ} → Names ps s p → given_twice ps ≡ None → parent_of ps s ≡ Some p
   named {ps} {p} n once = go (parent_of ps s) refl
     where
-      go : (o : Option ℕ) → parent_of ps s ≡ o → o ≡ some p
-      go none e = absurd (unnamed e p n)
-      go (some q) e = ap some (one_parent once (names e) n)
+      go : (o : Option ℕ) → parent_of ps s ≡ o → o ≡ Some p
+      go None e = absurd (unnamed e p n)
+      go (Some q) e = ap Some (one_parent once (names e) n)
 
 -- the elements that pass a test are fewer than all where one fails
 module _ {A : Type 0} (p : A → Bool) where
@@ -143,7 +143,7 @@ first_step : {ps : List ParentRow} {s h : ℕ} → Leads ps s h → (s ≡ h) �
 first_step there = inl refl
 first_step (step {p = p} n l) = inr (p, n, l)
 
-module _ (ps : List ParentRow) (once : given_twice ps ≡ none) where
+module _ (ps : List ParentRow) (once : given_twice ps ≡ None) where
   abbrev PartOf : List ParentRow → Type 0
   PartOf qs = (s p : ℕ) → Names qs s p → Names ps s p
 
@@ -197,10 +197,10 @@ module _ (ps : List ParentRow) (once : given_twice ps ≡ none) where
 
       go :
           (o : Option ℕ) → parent_of ps x ≡ o →
-          get_or (map (λ (p : ℕ). eqb p s || comes_back (parent_of ps) s n p) o) false ≡ true →
+          unwrap_or (option_map (λ (p : ℕ). eqb p s || comes_back (parent_of ps) s n p) o) false ≡ true →
           ((p : ℕ) → comes_back (parent_of ps) s n p ≡ true → Back p) → Back x
-      go none f e more = false-true e
-      go (some p) f e more = (p, names f, arrives p e (more p))
+      go None f e more = false-true e
+      go (Some p) f e more = (p, names f, arrives p e (more p))
 
   -- 36: a record's own chain comes back just where it is found to
   pub back-exactly : (r : ParentRow) → Among r ps → (returns ps r ≡ true) ↔ ComesBack ps r
@@ -223,22 +223,22 @@ among-take (suc i) (y ∷ ys) m = ⊎_elim (λ e. here e) (λ n. later (among-ta
 -- what a search for the first element that passes a test says: no element does, or it is the one at place i, and none before
 module _ {A : Type 0} (p : A → Bool) where
   data Searched (k : ℕ) (xs : List A) : Option ℕ → Type 0 where
-    nothing : ((y : A) → Among y xs → p y ≡ false) → Searched k xs none
+    nothing : ((y : A) → Among y xs → p y ≡ false) → Searched k xs None
     it :
         (i : ℕ) (x : A) (rest : List A) → drop i xs ≡ x ∷ rest → p x ≡ true → ((y : A) → Among y (take i xs) → p y ≡ false) →
-        Searched k xs (some (k + i))
+        Searched k xs (Some (k + i))
 
   searched-more :
       {k : ℕ} {x : A} {xs : List A} {o : Option ℕ} (t : Bool) → p x ≡ t → Searched (suc k) xs o →
-      Searched k (x ∷ xs) (cond t (some k) o)
+      Searched k (x ∷ xs) (cond t (Some k) o)
   searched-more {k} {x} {xs} true e s =
       let at : k + 0 ≡ k = omega arith in
-      let f : Searched k (x ∷ xs) (some (k + 0)) = it 0 x xs refl e (λ y m. absurd (among_none m)) in
+      let f : Searched k (x ∷ xs) (Some (k + 0)) = it 0 x xs refl e (λ y m. absurd (among_none m)) in
       rw at at f
   searched-more false e (nothing h) = nothing (for-cons (λ y. p y ≡ false) e h)
   searched-more {k} {x} {xs} false e (it i y rest d t h) =
       let at : k + suc i ≡ suc k + i = omega arith in
-      let f : Searched k (x ∷ xs) (some (k + suc i)) = it (suc i) y rest d t (for-cons (λ y. p y ≡ false) e h) in
+      let f : Searched k (x ∷ xs) (Some (k + suc i)) = it (suc i) y rest d t (for-cons (λ y. p y ≡ false) e h) in
       rw at at f
 
   searched : (k : ℕ) (xs : List A) → Searched k xs (first p k xs)
@@ -254,11 +254,11 @@ pub record FirstBack (ps : List ParentRow) (k : ℕ) : Type 0 where
   pub comes-back : ComesBack ps row
   pub none_before : (r : ParentRow) → Among r (take k ps) → ComesBack ps r → ⊥
 
-module _ (ps : List ParentRow) (once : given_twice ps ≡ none) where
+module _ (ps : List ParentRow) (once : given_twice ps ≡ None) where
   -- the answer to 36
   data Rings : Option ℕ → Type 0 where
-    no-ring : ((r : ParentRow) → Among r ps → ComesBack ps r → ⊥) → Rings none
-    ring : {k : ℕ} → FirstBack ps k → Rings (some (suc k))
+    no-ring : ((r : ParentRow) → Among r ps → ComesBack ps r → ⊥) → Rings None
+    ring : {k : ℕ} → FirstBack ps k → Rings (Some (suc k))
 
   not_back : (r : ParentRow) → Among r ps → returns ps r ≡ false → ComesBack ps r → ⊥
   not_back r m f b = false-true (sym f ∙ (back-exactly ps once r m).1 b)
@@ -282,19 +282,19 @@ module _ (ps : List ParentRow) (once : given_twice ps ≡ none) where
           }))
 
   -- 36 is kept just where no record's own chain comes back
-  pub ring-none : (ringed ps ≡ none) ↔ ((r : ParentRow) → Among r ps → ComesBack ps r → ⊥)
+  pub ring-none : (ringed ps ≡ None) ↔ ((r : ParentRow) → Among r ps → ComesBack ps r → ⊥)
   ring-none = go rings
     where
-      go : {o : Option ℕ} → Rings o → (o ≡ none) ↔ ((r : ParentRow) → Among r ps → ComesBack ps r → ⊥)
+      go : {o : Option ℕ} → Rings o → (o ≡ None) ↔ ((r : ParentRow) → Among r ps → ComesBack ps r → ⊥)
       go (no-ring h) = (λ e. h, λ h. refl)
       go (ring {k = k} f) =
           (λ e. some-none e, λ h. absurd (h f.row (among-drop k ps (rw f.at_place (here refl))) f.comes-back))
 
   -- and where it isn't, it names the first record whose own chain does
-  pub ring-first : (k : ℕ) → ringed ps ≡ some (suc k) → FirstBack ps k
+  pub ring-first : (k : ℕ) → ringed ps ≡ Some (suc k) → FirstBack ps k
   ring-first k e = go rings e
     where
-      go : {o : Option ℕ} → Rings o → o ≡ some (suc k) → FirstBack ps k
+      go : {o : Option ℕ} → Rings o → o ≡ Some (suc k) → FirstBack ps k
       go (no-ring h) e = some-none (sym e)
       go (ring {k = j} f) e =
           let same : j ≡ k = cc in
@@ -302,7 +302,7 @@ module _ (ps : List ParentRow) (once : given_twice ps ≡ none) where
 
   -- "the chain is followed to its head": records enough for all the steps are left, as each step's is used once
   reaches :
-      ringed ps ≡ none → (n : ℕ) (qs : List ParentRow) → length qs ≤ n → (s : ℕ) →
+      ringed ps ≡ None → (n : ℕ) (qs : List ParentRow) → length qs ≤ n → (s : ℕ) →
       ((y p : ℕ) → Leads ps s y → Names ps y p → Names qs y p) → Chain ps s (head_from (parent_of ps) n s)
   unfolding head_from
   reaches none-back zero qs h s left =
@@ -318,20 +318,20 @@ module _ (ps : List ParentRow) (once : given_twice ps ≡ none) where
       go :
           (o : Option ℕ) → parent_of ps s ≡ o →
           (length (others s qs) ≤ n → (p : ℕ) → ((y q : ℕ) → Leads ps p y → Names ps y q → Names (others s qs) y q) →
-          Chain ps p (head_from (parent_of ps) n p)) → Chain ps s (get_or (map (head_from (parent_of ps) n) o) s)
-      go none e more = record { leads = there; ends = unnamed e }
-      go (some p) e more =
+          Chain ps p (head_from (parent_of ps) n p)) → Chain ps s (unwrap_or (option_map (head_from (parent_of ps) n) o) s)
+      go None e more = record { leads = there; ends = unnamed e }
+      go (Some p) e more =
           let m : Names ps s p = names e in
           let on = more (omega (arith, others-fewer s qs (left s p there m))) p (still-left m) in
           record { leads = step m on.leads; ends = on.ends }
 
   -- where 35 and 36 are kept every chain ends, and the head is its end
-  pub head-chain : ringed ps ≡ none → (s : ℕ) → Chain ps s (head ps s)
+  pub head-chain : ringed ps ≡ None → (s : ℕ) → Chain ps s (head ps s)
   unfolding head
   head-chain none-back s = reaches none-back (length ps) ps (omega arith) s (λ y p l m. m)
 
 -- and a chain has no other end
-pub chain_head : {ps : List ParentRow} → given_twice ps ≡ none → {s h k : ℕ} → Chain ps s h → Chain ps s k → h ≡ k
+pub chain_head : {ps : List ParentRow} → given_twice ps ≡ None → {s h k : ℕ} → Chain ps s h → Chain ps s k → h ≡ k
 chain_head {ps} once a b = go a.leads a.ends b.leads b.ends
   where
     go : {s h k : ℕ} → Leads ps s h → ((p : ℕ) → Names ps h p → ⊥) → Leads ps s k → ((p : ℕ) → Names ps k p → ⊥) → h ≡ k

@@ -1,12 +1,11 @@
 -- Rows by groups keep what rows keep: their units, that they agree, their ranges, and no more groups than suppliers. Assumes
 -- nothing.
+use Rattle.std.specs.Prelude.{None, Option, Some, option_map, unwrap_or}
 use Prim.Native.Nat.{ℕ, zero, suc, ◌≤◌}
 use mathlib.Core.Path.{◌≡◌, refl, sym, ◌∙◌, ap, subst}
 use mathlib.Core.Logic.{⊎_elim}
 use mathlib.Core.Bool.{Bool, true, false, not, ◌&&◌, ◌||◌, or-true}
 use mathlib.Core.List.{List, [], ◌∷◌, map}
-use mathlib.Core.Option
-use mathlib.Core.Option.{Option, none, some, get_or}
 use native.Mathlib.Omega.{arith}
 use lib.Dec.{eqb}
 use lib.ListN.{length}
@@ -64,8 +63,8 @@ module _ (number : ℕ → ℕ) where
       rw (same-odds r e (or_fst _ (any (supply_odds r) es) f)) (none-odds r es (or_snd (supply_odds r e) _ f))
 
   still-agree :
-      (seen : List SupplyRow) (k : ℕ) (rs : List SupplyRow) → first_at_odds supply_odds seen k rs ≡ none →
-      first_at_odds supply_odds (map (in_place number) seen) k (map (in_place number) rs) ≡ none
+      (seen : List SupplyRow) (k : ℕ) (rs : List SupplyRow) → first_at_odds supply_odds seen k rs ≡ None →
+      first_at_odds supply_odds (map (in_place number) seen) k (map (in_place number) rs) ≡ None
   unfolding first_at_odds
   still-agree seen k [] f = refl
   still-agree seen k (r ∷ rs) f =
@@ -78,7 +77,7 @@ unfolding units numbers_of grouped
 grouped-units ps rs = same_units (head ps) [] rs
 
 -- "Rows of one unit share supplier and dfax."
-pub grouped-agree : (ps : List ParentRow) (rs : List SupplyRow) → supply_at_odds rs ≡ none → supply_at_odds (grouped ps rs) ≡ none
+pub grouped-agree : (ps : List ParentRow) (rs : List SupplyRow) → supply_at_odds rs ≡ None → supply_at_odds (grouped ps rs) ≡ None
 unfolding supply_at_odds grouped
 grouped-agree ps rs f = still-agree (head ps) [] 1 rs f
 
@@ -87,7 +86,7 @@ abbrev Ranged : ℕ → Type 0
 Ranged s = (1 ≤ s) × (s ≤ highest_supplier)
 
 module _ {ps : List ParentRow} (permitted : All PermittedParent ps) where
-  parent-ranged : (s : ℕ) {p : ℕ} → parent_of ps s ≡ some p → Ranged p
+  parent-ranged : (s : ℕ) {p : ℕ} → parent_of ps s ≡ Some p → Ranged p
   parent-ranged s e =
       let named = names e in
       let row = all-mem permitted named.a-row in
@@ -100,9 +99,9 @@ module _ {ps : List ParentRow} (permitted : All PermittedParent ps) where
     where
       go :
           (o : Option ℕ) → parent_of ps s ≡ o → ((p : ℕ) → Ranged p → Ranged (head_from (parent_of ps) k p)) →
-          Ranged (get_or (Option.map (head_from (parent_of ps) k) o) s)
-      go none e more = h
-      go (some p) e more = more p (parent-ranged s e)
+          Ranged (unwrap_or (option_map (head_from (parent_of ps) k) o) s)
+      go None e more = h
+      go (Some p) e more = more p (parent-ranged s e)
 
   pub head-ranged : {s : ℕ} → 1 ≤ s → s ≤ highest_supplier → (1 ≤ head ps s) × (head ps s ≤ highest_supplier)
   unfolding head

@@ -1,11 +1,10 @@
 -- Laws of heads that are put into the rows of supply, one row a turn, over plain lists. Assumes nothing.
+use Rattle.std.specs.Prelude.{None, Option, Some, option_map, unwrap_or}
 use Prim.Native.Nat.{ℕ, zero, suc, ◌+◌, ◌*◌, ◌≤◌, ◌<◌}
 use mathlib.Core.Path.{◌≡◌, refl, ◌∙◌, ap}
 use mathlib.Core.Logic.{⊎_elim}
 use mathlib.Core.List.Memᴰ
 use mathlib.Core.List.{List, [], ◌∷◌, Memᴰ as Among}
-use mathlib.Core.Option
-use mathlib.Core.Option.{Option, none, some, map}
 use native.Mathlib.Omega.{arith}
 use lib.ListN.{length, get_or, set, drop, replicate, length-set, length-replicate}
 use lib.Seq.{get_or-set_same, get_or-set_other}
@@ -142,9 +141,9 @@ same_head f g same (suc k) s = rw (same s) (go (g s) (λ (p : ℕ). same_head f 
   where
     go :
         (o : Option ℕ) → ((p : ℕ) → head_from f k p ≡ head_from g k p) →
-        Option.get_or (map (head_from f k) o) s ≡ Option.get_or (map (head_from g k) o) s
-    go none below = refl
-    go (some p) below = below p
+        unwrap_or (option_map (head_from f k) o) s ≡ unwrap_or (option_map (head_from g k) o) s
+    go None below = refl
+    go (Some p) below = below p
 
 -- by a run of parents, rows are headed as they are grouped by the rows of parents
 module _ (ps : List ParentRow) (run : List ℕ) (laid : ParentsIn ps run) (rows : ℕ) (all : rows ≡ length ps) where

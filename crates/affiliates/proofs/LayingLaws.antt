@@ -1,10 +1,10 @@
 -- Laws of parents that are laid down in a run, one row a turn, over plain lists. Assumes nothing.
+use Rattle.std.specs.Prelude.{None, Option, Some}
 use Prim.Native.Nat.{ℕ, zero, suc, ◌+◌, ◌*◌, ◌≤◌, ◌<◌}
 use mathlib.Core.Path.{◌≡◌, refl, sym, ◌∙◌}
 use mathlib.Core.Logic.{⊎_elim}
 use mathlib.Core.Bool.{Bool, true, false, not}
 use mathlib.Core.List.{List, [], ◌∷◌}
-use mathlib.Core.Option.{Option, none, some}
 use native.Mathlib.Omega.{arith}
 use native.Mathlib.Numerals.{add-one}
 use lib.Dec.{eqb}
@@ -26,15 +26,15 @@ use Rattle.affiliates.proofs.WalkLaws.{parent-none, parent-some, parent-among}
 
 -- what is there, or else another
 unfoldable or_else : Option ℕ → Option ℕ → Option ℕ
-or_else none o = o
-or_else (some p) o = some p
+or_else None o = o
+or_else (Some p) o = Some p
 
-or-none : (o : Option ℕ) → or_else o none ≡ o
+or-none : (o : Option ℕ) → or_else o None ≡ o
 unfolding or_else
-or-none none = refl
-or-none (some p) = refl
+or-none None = refl
+or-none (Some p) = refl
 
-some-none : {A : Type 0} {k : ℕ} → some k ≡ none → A
+some-none : {A : Type 0} {k : ℕ} → Some k ≡ None → A
 some-none e = let z : ◌≡◌ {A = ℕ} 0 1 = cc in absurd (omega arith)
 
 -- a run of zeros has no parent
@@ -44,7 +44,7 @@ cleared (suc n) zero = refl
 cleared (suc n) (suc s) = cleared n s
 
 module _ (r : ParentRow) (rs : List ParentRow) (s : ℕ) where
-  own-parent : s ≡ r.supplier → parent_of (r ∷ rs) s ≡ some r.parent
+  own-parent : s ≡ r.supplier → parent_of (r ∷ rs) s ≡ Some r.parent
   unfolding parent_of find
   own-parent e = rw (eq-eqb r.supplier s (sym e))
 
@@ -96,13 +96,13 @@ module _ (cells : List ℕ) (n : ℕ) (old : List ℕ) where
       stands = l.has (parent_at cells i) ∙ rw (← is, ← stood)
 
       -- it has a parent already
-      pub laying-here : (r ≡ 0 → ⊥) → ParentsLaid (parent_rows n cells) run (i + 1)
+      pub laying-here : (r ≡ 0 → ⊥) → ParentsLaid (parent_rows n cells) run (Some (i + 1))
       unfolding first_at_odds
       laying-here e =
           let odd : odds ≡ true = stands ∙ rw (ne_eqb r 0 e) in
-          let twice : given_twice (parent_rows n cells) ≡ some (suc i) = l.rest ∙ rw (row, odd) in
+          let twice : given_twice (parent_rows n cells) ≡ Some (suc i) = l.rest ∙ rw (row, odd) in
           record {
-            place = rw twice (add-one i);
+            place = rw (twice, add-one i);
             all-parents = λ f. some-none (sym twice ∙ f);
           }
 
@@ -117,7 +117,7 @@ module _ (cells : List ℕ) (n : ℕ) (old : List ℕ) where
         same : get_or (set run x v) x 0 ≡ v
         same = get_or-set_same run x v 0 inside
 
-        given : parent_in (set run x v) x ≡ some v
+        given : parent_in (set run x v) x ≡ Some v
         given = parent-some (set run x v) x (λ (z : get_or (set run x v) x 0 ≡ 0). some-parent (sym same ∙ z)) ∙ rw same
 
         parent-kept : (s : ℕ) → (s ≡ x → ⊥) → parent_in (set run x v) s ≡ parent_in run s
@@ -196,7 +196,7 @@ module _ (cells : List ℕ) (n : ℕ) (old : List ℕ) where
               rest = l.rest ∙ rw (row, free-yet, add-one i);
             }
 
-  pub laying-over : (run : List ℕ) (i : ℕ) → Laying cells n old run i → n ≤ i → ParentsLaid (parent_rows n cells) run 0
+  pub laying-over : (run : List ℕ) (i : ℕ) → Laying cells n old run i → n ≤ i → ParentsLaid (parent_rows n cells) run None
   unfolding parent_of find first_at_odds
   laying-over run i l h =
       record {

@@ -1,12 +1,11 @@
 -- Laws of one step of a chain along a run of parents, and of the search for a chain that comes back, one row a turn, over plain
 -- lists. Assumes nothing.
+use Rattle.std.specs.Prelude.{None, Option, Some, option_map, unwrap_or}
 use Prim.Native.Nat.{ℕ, zero, suc, ◌+◌, ◌-◌, ◌*◌, ◌≤◌, ◌<◌}
 use mathlib.Core.Path.{◌≡◌, refl, sym, ◌∙◌}
 use mathlib.Core.Bool.{Bool, true, false, ◌||◌}
 use mathlib.Core.List.Memᴰ
 use mathlib.Core.List.{List, Memᴰ as Among}
-use mathlib.Core.Option
-use mathlib.Core.Option.{Option, none, some, map}
 use native.Mathlib.Omega.{arith}
 use native.Mathlib.Numerals.{add-one}
 use lib.Dec.{eqb}
@@ -25,11 +24,11 @@ use Rattle.affiliates.specs.Affiliates.{parent_of, head_from, comes_back, return
 use Rattle.affiliates.specs.promises.Laying.{ParentCells, ParentsIn, parent_in}
 
 module _ (run : List ℕ) where
-  pub parent-none : (s : ℕ) → get_or run s 0 ≡ 0 → parent_in run s ≡ none
+  pub parent-none : (s : ℕ) → get_or run s 0 ≡ 0 → parent_in run s ≡ None
   unfolding parent_in
   parent-none s e = rw (eq-eqb (get_or run s 0) 0 e)
 
-  pub parent-some : (s : ℕ) → (get_or run s 0 ≡ 0 → ⊥) → parent_in run s ≡ some (get_or run s 0)
+  pub parent-some : (s : ℕ) → (get_or run s 0 ≡ 0 → ⊥) → parent_in run s ≡ Some (get_or run s 0)
   unfolding parent_in
   parent-some s e = rw (ne_eqb (get_or run s 0) 0 e)
 
@@ -59,7 +58,7 @@ module _ (run : List ℕ) (s p k : ℕ) (is : p ≡ get_or run s 0) where
 
     -- p is its parent
     module _ (some-parent : p ≡ 0 → ⊥) where
-      there : parent_in run s ≡ some p
+      there : parent_in run s ≡ Some p
       there = parent-some run s (λ (z : get_or run s 0 ≡ 0). some-parent (is ∙ z)) ∙ rw (← is)
 
       pub head-on : (next : ℕ) → next ≡ k - 1 → {r : ℕ} → r ≡ head_from (parent_in run) next p → r ≡ head_from (parent_in run) k s
@@ -88,10 +87,10 @@ same_back f g same s (suc k) x = rw (same x) (go (g x) (λ (p : ℕ). same_back 
   where
     go :
         (o : Option ℕ) → ((p : ℕ) → comes_back f s k p ≡ comes_back g s k p) →
-        Option.get_or (map (λ (p : ℕ). eqb p s || comes_back f s k p) o) false
-        ≡ Option.get_or (map (λ (p : ℕ). eqb p s || comes_back g s k p) o) false
-    go none below = refl
-    go (some p) below = rw (below p)
+        unwrap_or (option_map (λ (p : ℕ). eqb p s || comes_back f s k p) o) false
+        ≡ unwrap_or (option_map (λ (p : ℕ). eqb p s || comes_back g s k p) o) false
+    go None below = refl
+    go (Some p) below = rw (below p)
 
 -- a row is among all
 pub parent-among : (n : ℕ) (cells : List ℕ) (i : ℕ) → i < n → Among (parent_at cells i) (parent_rows n cells)
@@ -125,14 +124,14 @@ module _ (cells : List ℕ) (n : ℕ) (run : List ℕ) where
           rw (parent-length n cells, ← its, is)
           (sym (same_back (parent_in run) (parent_of (parent_rows n cells)) s.parents-in.held x n x))
 
-      pub searching-here : t ≡ true → i + 1 ≡ Option.get_or (ringed (parent_rows n cells)) 0
+      pub searching-here : t ≡ true → Some (i + 1) ≡ ringed (parent_rows n cells)
       searching-here e =
           rw (
             s.rest,
             parent-next n cells i h,
             first-here (returns (parent_rows n cells)) (suc i) (parent_at cells i) behind (its_own ∙ e),
+            add-one i,
           )
-          (add-one i)
 
       pub searching-next : t ≡ false → Searching cells n run (i + 1)
       searching-next e =
@@ -146,6 +145,6 @@ module _ (cells : List ℕ) (n : ℕ) (run : List ℕ) where
                 ∙ rw (add-one i));
           }
 
-  pub searching-over : (i : ℕ) → Searching cells n run i → n ≤ i → 0 ≡ Option.get_or (ringed (parent_rows n cells)) 0
+  pub searching-over : (i : ℕ) → Searching cells n run i → n ≤ i → None ≡ ringed (parent_rows n cells)
   unfolding first
   searching-over i s h = rw (s.rest, drop-end i (parent_rows n cells) (rw (parent-length n cells) h))

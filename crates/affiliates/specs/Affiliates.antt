@@ -1,27 +1,25 @@
 -- Document 02, F-6: "Section 6.4.1(f)(iii) counts corporate affiliates as one supplier. A study's fifth file .. names a parent
 -- for a supplier, and the chain is followed to its head. The head stands in for the supplier in the test". The chain as a
 -- reader would say it, and that it is the one followed here, stands in `Chain` and `proofs/ChainLaws`. Assumes nothing.
-use Rattle.std.specs.Prelude.{ℕ, zero, suc, Bool, false, ◌||◌, List, [], map, eqb, length}
-use Rattle.std.proofs.Math.Option
-use Rattle.std.proofs.Math.Option.{Option, get_or}
+use Rattle.std.specs.Prelude.{ℕ, zero, suc, Bool, false, ◌||◌, List, [], map, eqb, length, Option, option_map, unwrap_or}
 use Rattle.base.specs.Search.{find, first, first_at_odds}
 use Rattle.tables.specs.Rows.{SupplyRow, ParentRow}
 
 -- the parent that a supplier is given, none for the head of a chain
 unfoldable pub parent_of : List ParentRow → ℕ → Option ℕ
-parent_of ps s = Option.map (λ (r : ParentRow). r.parent) (find (λ (r : ParentRow). eqb r.supplier s) ps)
+parent_of ps s = option_map (λ (r : ParentRow). r.parent) (find (λ (r : ParentRow). eqb r.supplier s) ps)
 
 -- chains by the parents that suppliers have, each step with one row fewer left to use
 module _ (parent : ℕ → Option ℕ) where
   -- where the chain from s ends
   unfoldable pub head_from : ℕ → ℕ → ℕ
   head_from zero s = s
-  head_from (suc k) s = get_or (Option.map (head_from k) (parent s)) s
+  head_from (suc k) s = unwrap_or (option_map (head_from k) (parent s)) s
 
   -- whether the chain comes back to s from x
   unfoldable pub comes_back : ℕ → ℕ → ℕ → Bool
   comes_back s zero x = false
-  comes_back s (suc k) x = get_or (Option.map (λ (p : ℕ). eqb p s || comes_back s k p) (parent x)) false
+  comes_back s (suc k) x = unwrap_or (option_map (λ (p : ℕ). eqb p s || comes_back s k p) (parent x)) false
 
 -- "the chain is followed to its head"
 unfoldable pub head : List ParentRow → ℕ → ℕ

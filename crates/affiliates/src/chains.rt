@@ -1,6 +1,5 @@
 // Chains of parents, followed in a run of parents, each step with one row fewer left to use.
 ghost use Rattle.std.specs.Prelude.{◌≡◌, ◌≤◌};
-ghost use Rattle.std.proofs.Math.Option.{get_or};
 ghost use Rattle.tables.specs.Table.{highest_supplier};
 ghost use Rattle.tables.specs.promises.FlatRows.{parent_rows};
 ghost use Rattle.affiliates.specs.Affiliates.{head_from, comes_back, ringed as affiliates_ringed};
@@ -9,21 +8,19 @@ ghost use Rattle.affiliates.specs.promises.Laying.{ParentCells, ParentRun, Paren
 use crate::parents::at_place;
 use cells::parent::{SUPPLIER, WIDTH};
 
-// The first record whose own chain comes back to its supplier, 0 where none does. Records count from 1.
-pub fn ringed(cells: &[u64], n: usize, parents: &[u16]) -> usize
+// The first record whose own chain comes back to its supplier. Records count from 1.
+pub fn ringed(cells: &[u64], n: usize, parents: &[u16]) -> Option<usize>
     requires parent_cells { ParentCells n cells.now }
     requires parents_in { ParentsIn (parent_rows n cells.now) parents.now }
-    ensures { result ≡ get_or (affiliates_ringed (parent_rows n cells.now)) 0 }
+    ensures { result ≡ affiliates_ringed (parent_rows n cells.now) }
 {
-    let mut i = 0;
-    while i < n {
+    for i in 0..n {
         let supplier = cells[i * WIDTH + SUPPLIER];
         if comes_back(parents, n, supplier, supplier) {
-            return i + 1;
+            return Some(i + 1);
         }
-        i += 1;
     }
-    0
+    None
 }
 
 // Whether the chain comes back to a supplier from the one at which it is, with so many rows left.

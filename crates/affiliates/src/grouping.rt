@@ -27,11 +27,9 @@ fn group_rows(parents: &[u16], rows: usize, heads: &mut [u16], supply: &mut [u64
     requires supplier_cells { SupplierCells n supply.old }
     ensures { supply_rows n supply.new ≡ headed parents.now rows (supply_rows n supply.old) }
 {
-    let mut i = 0;
-    while i < n {
+    for i in 0..n {
         let found = head_once(parents, rows, heads, supply[i * WIDTH + SUPPLIER]);
         supply[i * WIDTH + SUPPLIER] = found;
-        i += 1;
     }
 }
 

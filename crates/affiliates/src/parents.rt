@@ -1,5 +1,6 @@
 // The parents of suppliers in a run that has a place for each number that a supplier may have, so that
-// a step of a chain is one look: its parent stands there, 0 for none.
+// a step of a chain is one look: its parent stands there, 0 for none. This is fixed memory, and an `Option`
+// would take twice the room.
 ghost use Rattle.std.specs.Prelude.{◌≡◌, ◌<◌, length, get_or};
 ghost use Rattle.tables.specs.Table.{highest_supplier};
 ghost use Rattle.tables.specs.promises.FlatRows.{parent_rows};
@@ -11,23 +12,21 @@ use cells::parent::{PARENT, SUPPLIER, WIDTH};
 pub const PLACES: usize = 1000;
 
 // Lays down the parent of each supplier, as far as the first record that gives one a second parent,
-// and answers that record, 0 where none does. Records count from 1.
-pub fn lay_parents(cells: &[u64], n: usize, parents: &mut [u16]) -> usize
+// and answers that record. Records count from 1.
+pub fn lay_parents(cells: &[u64], n: usize, parents: &mut [u16]) -> Option<usize>
     requires parent_cells { ParentCells n cells.now }
     requires highest_supplier_in_bounds { highest_supplier < length parents.old }
     requires cleared { Cleared parents.old }
     ensures { ParentsLaid (parent_rows n cells.now) parents.new result }
 {
-    let mut i = 0;
-    while i < n {
+    for i in 0..n {
         let supplier = cells[i * WIDTH + SUPPLIER];
         if at_place(parents, supplier) != 0 {
-            return i + 1;
+            return Some(i + 1);
         }
         parents[supplier as usize] = cells[i * WIDTH + PARENT] as u16;
-        i += 1;
     }
-    0
+    None
 }
 
 // What stands at a supplier's place.

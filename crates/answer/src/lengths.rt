@@ -19,10 +19,8 @@ pub fn length(cells: &[u64], n: usize) -> usize
     ensures { result ≡ list_length (answer_text (answer_rows n cells.now)) }
 {
     let mut at = HEADER;
-    let mut i = 0;
-    while i < n {
+    for i in 0..n {
         at += line_length(cells, i);
-        i += 1;
     }
     at
 }

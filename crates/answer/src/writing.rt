@@ -53,10 +53,8 @@ fn write_rows(cells: &[u64], n: usize, out: &mut [u8]) -> usize
     ensures { Wrote (together line (answer_rows n cells.now)) result out.old out.new }
 {
     let mut at = 0;
-    let mut i = 0;
-    while i < n {
+    for i in 0..n {
         at += write_row(cells, i, &mut out[at..]);
-        i += 1;
     }
     at
 }

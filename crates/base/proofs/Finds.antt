@@ -1,9 +1,9 @@
 -- Steps of the searches that answer whether some element passes a test, which is the first and which they all are. Assumes
 -- nothing.
+use Rattle.std.specs.Prelude.{None, Some}
 use mathlib.Core.Path.{◌≡◌, refl}
 use mathlib.Core.Bool.{Bool, true, false}
 use mathlib.Core.List.{List, [], ◌∷◌}
-use mathlib.Core.Option.{none, some}
 use Rattle.base.specs.Search.{any, find, those}
 
 module _ {A : Type 0} (p : A → Bool) where
@@ -19,11 +19,11 @@ module _ {A : Type 0} (p : A → Bool) where
   unfolding any
   any-later x xs e = simp e
 
-  pub find_none : find p [] ≡ none
+  pub find_none : find p [] ≡ None
   unfolding find
   find_none = refl
 
-  pub find-here : (x : A) (xs : List A) → p x ≡ true → find p (x ∷ xs) ≡ some x
+  pub find-here : (x : A) (xs : List A) → p x ≡ true → find p (x ∷ xs) ≡ Some x
   unfolding find
   find-here x xs e = simp e
 

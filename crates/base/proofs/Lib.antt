@@ -5,7 +5,6 @@ pub mod FirstLaws
 pub mod Lists
 pub mod Mapped
 pub mod Members
-pub mod Places
 pub mod RisingLaws
 pub mod SearchLaws
 pub mod Searches

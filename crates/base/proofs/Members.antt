@@ -1,12 +1,12 @@
 -- Members of a list: by their places, in a rest of the list, what a search finds of them, and the lowest of those that pass
 -- a test. Assumes nothing.
+use Rattle.std.specs.Prelude.{None, Option, Some}
 use Prim.Native.Nat.{ℕ, zero, suc, ◌+◌, ◌<◌}
 use mathlib.Core.Path.{◌≡◌, refl, sym, ◌∙◌, subst}
 use mathlib.Core.Logic.{◌⊎◌, inl, inr, ⊎_elim}
 use mathlib.Core.Bool.{Bool, true, false, cond}
 use mathlib.Core.List.Memᴰ
 use mathlib.Core.List.{List, [], ◌∷◌, Memᴰ}
-use mathlib.Core.Option.{Option, none, some}
 use native.Mathlib.Omega.{arith}
 use lib.ListN.{length, get_or, drop}
 use Rattle.base.specs.Search.{first}
@@ -37,19 +37,19 @@ module _ {A : Type 0} where
 -- what a search finds: the place of an element that passes the test, or nothing where none does
 module _ {A : Type 0} (d : A) (p : A → Bool) where
   pub data Finds (k : ℕ) (xs : List A) : Option ℕ → Type 0 where
-    it : (i : ℕ) → i < length xs → p (get_or xs i d) ≡ true → Finds k xs (some (k + i))
-    nothing : ((y : A) → Memᴰ y xs → p y ≡ false) → Finds k xs none
+    it : (i : ℕ) → i < length xs → p (get_or xs i d) ≡ true → Finds k xs (Some (k + i))
+    nothing : ((y : A) → Memᴰ y xs → p y ≡ false) → Finds k xs None
 
   finds-more :
       {k : ℕ} {x : A} {xs : List A} {o : Option ℕ} (t : Bool) → p x ≡ t → Finds (suc k) xs o →
-      Finds k (x ∷ xs) (cond t (some k) o)
+      Finds k (x ∷ xs) (cond t (Some k) o)
   finds-more {k} {x} {xs} true e _ =
       let here : k + 0 ≡ k = omega arith in
-      let f : Finds k (x ∷ xs) (some (k + 0)) = it 0 (omega arith) e in
+      let f : Finds k (x ∷ xs) (Some (k + 0)) = it 0 (omega arith) e in
       rw here at f
   finds-more {k} {x} {xs} false e (it i h f) =
       let next : k + suc i ≡ suc k + i = omega arith in
-      let g : Finds k (x ∷ xs) (some (k + suc i)) = it (suc i) (omega arith) f in
+      let g : Finds k (x ∷ xs) (Some (k + suc i)) = it (suc i) (omega arith) f in
       rw next at g
   finds-more false e (nothing h) = nothing (for-cons (λ y. p y ≡ false) e h)
 
@@ -70,8 +70,8 @@ module _
     {A : Type 0} (R : A → A → Type 0) (p : A → Bool)
     (one_way : (x y : A) → R x y ⊎ R y x) (through : (x y z : A) → p y ≡ true → R x y → R y z → R x z)
   where
-    None : List A → Type 0
-    None xs = (y : A) → Memᴰ y xs → p y ≡ false
+    NonePasses : List A → Type 0
+    NonePasses xs = (y : A) → Memᴰ y xs → p y ≡ false
 
     itself : (x : A) → R x x
     itself x = ⊎_elim (λ h. h) (λ h. h) (one_way x x)
@@ -102,8 +102,8 @@ module _
               }
 
     lowest-more :
-        {x : A} {xs : List A} (t : Bool) → p x ≡ t → Lowest R p xs ⊎ None xs → Lowest R p (x ∷ xs) ⊎ None (x ∷ xs)
-    unfolding None
+        {x : A} {xs : List A} (t : Bool) → p x ≡ t → Lowest R p xs ⊎ NonePasses xs → Lowest R p (x ∷ xs) ⊎ NonePasses (x ∷ xs)
+    unfolding NonePasses
     lowest-more true e (inl l) = inl (with_first e l)
     lowest-more true e (inr n) = inl (first-lowest e (λ y m f. false-true (sym (n y m) ∙ f)))
     lowest-more {x} false e (inl l) =
@@ -117,6 +117,6 @@ module _
     lowest-more false e (inr n) = inr (for-cons (λ y. p y ≡ false) e n)
 
     pub lowest : (xs : List A) → Lowest R p xs ⊎ ((y : A) → Memᴰ y xs → p y ≡ false)
-    unfolding None
+    unfolding NonePasses
     lowest [] = inr (λ y m. absurd (Memᴰ.not-nil m))
     lowest (x ∷ xs) = lowest-more (p x) refl (lowest xs)

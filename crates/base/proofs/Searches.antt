@@ -1,10 +1,10 @@
 -- Laws of searches. Assumes nothing.
+use Rattle.std.specs.Prelude.{None, Option, Some, option_map}
 use Prim.Native.Nat.{ℕ, zero, suc, ◌+◌, ◌≤◌}
 use mathlib.Core.Path.{◌≡◌, refl, ap}
 use mathlib.Core.Logic.{⊎_elim}
 use mathlib.Core.Bool.{Bool, true, false, cond, ◌&&◌, not}
 use mathlib.Core.List.{List, [], ◌∷◌}
-use mathlib.Core.Option.{Option, none, some, map}
 use native.Mathlib.Omega.{arith}
 use lib.Dec.{eqb, eqb-zero-suc, eqb-suc-suc}
 use lib.ListN.{length, drop}
@@ -15,11 +15,11 @@ use Rattle.base.proofs.Tests.{either, eq-or-ne}
 
 module _ {A : Type 0} (p : A → Bool) where
   -- the four steps of a search: nothing is left, the next element passes, it doesn't, and what was searched is spent
-  pub first-none : (k : ℕ) → first p k [] ≡ none
+  pub first-none : (k : ℕ) → first p k [] ≡ None
   unfolding first
   first-none k = refl
 
-  pub first-here : (k : ℕ) (x : A) (xs : List A) → p x ≡ true → first p k (x ∷ xs) ≡ some k
+  pub first-here : (k : ℕ) (x : A) (xs : List A) → p x ≡ true → first p k (x ∷ xs) ≡ Some k
   unfolding first
   first-here k x xs e = simp e
 
@@ -40,7 +40,7 @@ module _ {A : Type 0} (p : A → Bool) where
 
   pub first-leading :
       (k : ℕ) (xs : List A) →
-      first (λ (x : A). not (p x)) k xs ≡ cond (eqb (leading p xs) (length xs)) none (some (k + leading p xs))
+      first (λ (x : A). not (p x)) k xs ≡ cond (eqb (leading p xs) (length xs)) None (Some (k + leading p xs))
   unfolding first leading
   first-leading k [] = refl
   first-leading k (x ∷ xs) = go (p x) (first-leading (suc k) xs)
@@ -52,13 +52,13 @@ module _ {A : Type 0} (p : A → Bool) where
       more = leading p xs
 
       go :
-          (t : Bool) → later ≡ cond (eqb more (length xs)) none (some (suc k + more)) →
-          cond (not t) (some k) later
-          ≡ cond (eqb (cond t (suc more) 0) (suc (length xs))) none (some (k + cond t (suc more) 0))
+          (t : Bool) → later ≡ cond (eqb more (length xs)) None (Some (suc k + more)) →
+          cond (not t) (Some k) later
+          ≡ cond (eqb (cond t (suc more) 0) (suc (length xs))) None (Some (k + cond t (suc more) 0))
       go true ih =
           let place : k + suc more ≡ suc k + more = omega arith in
           rw (eqb-suc-suc, place) ih
-      go false ih = rw eqb-zero-suc (ap some (omega arith))
+      go false ih = rw eqb-zero-suc (ap Some (omega arith))
 
 pub one-le : (t : Bool) → one t ≤ 1
 one-le true = omega arith
@@ -111,27 +111,27 @@ all_head (all_more p a) = p
 
 -- where a search finds nothing, nothing was there
 pub first-of-none :
-    {A : Type 0} (o : Option A) (os : List (Option A)) → first_of (o ∷ os) ≡ none → (o ≡ none) × (first_of os ≡ none)
+    {A : Type 0} (o : Option A) (os : List (Option A)) → first_of (o ∷ os) ≡ None → (o ≡ None) × (first_of os ≡ None)
 unfolding first_of
-first-of-none none os e = (refl, e)
-first-of-none (some x) os e = let z : ◌≡◌ {A = ℕ} 0 1 = cc in absurd (omega arith)
+first-of-none None os e = (refl, e)
+first-of-none (Some x) os e = let z : ◌≡◌ {A = ℕ} 0 1 = cc in absurd (omega arith)
 
-pub option-map-none : {A B : Type 0} (f : A → B) (o : Option A) → map f o ≡ none → o ≡ none
-option-map-none f none e = refl
-option-map-none f (some x) e = let z : ◌≡◌ {A = ℕ} 0 1 = cc in absurd (omega arith)
+pub option-map-none : {A B : Type 0} (f : A → B) (o : Option A) → option_map f o ≡ None → o ≡ None
+option-map-none f None e = refl
+option-map-none f (Some x) e = let z : ◌≡◌ {A = ℕ} 0 1 = cc in absurd (omega arith)
 
 pub first-none-all :
-    {A : Type 0} (p : A → Bool) (k : ℕ) (xs : List A) → first (λ (x : A). not (p x)) k xs ≡ none →
+    {A : Type 0} (p : A → Bool) (k : ℕ) (xs : List A) → first (λ (x : A). not (p x)) k xs ≡ None →
     All (λ (x : A). p x ≡ true) xs
 unfolding first
 first-none-all p k [] e = all_none
 first-none-all {A} p k (x ∷ xs) e = go (p x) refl (first-none-all p (suc k) xs) e
   where
     Later : Type 0
-    Later = first (λ (x : A). not (p x)) (suc k) xs ≡ none
+    Later = first (λ (x : A). not (p x)) (suc k) xs ≡ None
 
     go :
         (t : Bool) → p x ≡ t → (Later → All (λ (x : A). p x ≡ true) xs) →
-        cond (not t) (some k) (first (λ (x : A). not (p x)) (suc k) xs) ≡ none → All (λ (x : A). p x ≡ true) (x ∷ xs)
+        cond (not t) (Some k) (first (λ (x : A). not (p x)) (suc k) xs) ≡ None → All (λ (x : A). p x ≡ true) (x ∷ xs)
     go true q later e = all_more q (later e)
     go false q later e = let z : ◌≡◌ {A = ℕ} 0 1 = cc in absurd (omega arith)

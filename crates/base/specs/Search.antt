@@ -1,14 +1,13 @@
 -- Searches of a list, by a test. Assumes nothing.
-use Rattle.std.specs.Prelude.{ℕ, suc, Bool, false, cond, ◌||◌, List, [], ◌∷◌}
-use Rattle.std.proofs.Math.Option.{Option, none, some}
+use Rattle.std.specs.Prelude.{ℕ, suc, Bool, false, cond, ◌||◌, List, [], ◌∷◌, None, Option, Some}
 
 module _ {A : Type 0} (p : A → Bool) where
   -- the number of the first element that passes the test, where the list's first has the number k
   unfoldable pub first : ℕ → List A → Option ℕ
-  first k [] = none
+  first k [] = None
   first k (x ∷ xs) =
       let more = first (suc k) xs in
-      cond (p x) (some k) more
+      cond (p x) (Some k) more
 
   -- whether some element passes the test
   unfoldable pub any : List A → Bool
@@ -17,10 +16,10 @@ module _ {A : Type 0} (p : A → Bool) where
 
   -- the first element that passes the test
   unfoldable pub find : List A → Option A
-  find [] = none
+  find [] = None
   find (x ∷ xs) =
       let more = find xs in
-      cond (p x) (some x) more
+      cond (p x) (Some x) more
 
   -- the elements that pass the test
   unfoldable pub those : List A → List A
@@ -32,16 +31,16 @@ module _ {A : Type 0} (p : A → Bool) where
 -- the number of the first element that is at odds with an earlier one, where the list's first has the number k and `seen`
 -- came before it
 unfoldable pub first_at_odds : {A : Type 0} → (A → A → Bool) → List A → ℕ → List A → Option ℕ
-first_at_odds odds seen k [] = none
+first_at_odds odds seen k [] = None
 first_at_odds odds seen k (x ∷ xs) =
     let more = first_at_odds odds (x ∷ seen) (suc k) xs in
-    cond (any (odds x) seen) (some k) more
+    cond (any (odds x) seen) (Some k) more
 
 -- the first of several that is there
 unfoldable pub first_of : {A : Type 0} → List (Option A) → Option A
-first_of [] = none
-first_of (none ∷ os) = first_of os
-first_of (some x ∷ os) = some x
+first_of [] = None
+first_of (None ∷ os) = first_of os
+first_of (Some x ∷ os) = Some x
 
 -- every element has a property
 pub data All {A : Type 0} (P : A → Type 0) : List A → Type 0 where

@@ -1,8 +1,8 @@
 -- The cells of a day mean that day. Assumes nothing.
+use Rattle.std.specs.Prelude.{None, Option, Some}
 use Prim.Native.Nat.{ℕ, zero, suc, ◌+◌, ◌*◌, ◌≤◌}
 use mathlib.Core.Path.{◌≡◌, refl, sym, ◌∙◌, ap}
 use mathlib.Core.List.{List, [], ◌∷◌, ◌++◌}
-use mathlib.Core.Option.{Option, none, some}
 use native.Mathlib.Nat.{suc-mul, le_of_suc-le-suc, not-suc-le-zero}
 use native.Mathlib.Omega.{arith}
 use lib.ListN.{length, get_or, drop}
@@ -17,8 +17,8 @@ use Rattle.capping.specs.Days.{first_place, place_width, hour_in, unit_in, units
 
 hour-back : (o : Option ℕ) (s : List ℕ) → hour_in (get_or (hour_cells o ++ s) 0 0) (get_or (hour_cells o ++ s) 1 0) ≡ o
 unfolding hour_in hour_cells
-hour-back none s = refl
-hour-back (some h) s = refl
+hour-back None s = refl
+hour-back (Some h) s = refl
 
 unit-back : (u s : ℕ) (k : Kind) → unit_in u (letter_of k) s ≡ record { unit = u; schedule = s; kind = k }
 unfolding unit_in kind_of
@@ -45,13 +45,13 @@ running-back :
     (o : Option ℕ) (rs : List RunningUnit) → length rs ≤ most_running →
     units_from (hour_cells o ++ (length rs ∷ place_cells most_running rs)) 0 (length rs) ≡ rs
 unfolding hour_cells
-running-back none rs few = units-back rs most_running 0 _ few refl
-running-back (some h) rs few = units-back rs most_running 0 _ few refl
+running-back None rs few = units-back rs most_running 0 _ few refl
+running-back (Some h) rs few = units-back rs most_running 0 _ few refl
 
 third : (o : Option ℕ) (n : ℕ) (s : List ℕ) → get_or (hour_cells o ++ (n ∷ s)) 2 0 ≡ n
 unfolding hour_cells
-third none n s = refl
-third (some h) n s = refl
+third None n s = refl
+third (Some h) n s = refl
 
 pub cells-mean : (d : DayView) → length d.running ≤ most_running → day_in (day_cells d) ≡ d
 unfolding day_in day_cells

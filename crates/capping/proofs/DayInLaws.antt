@@ -1,12 +1,12 @@
 -- From cells to the day that they mean, one place after the other. Assumes nothing.
+use Rattle.std.specs.Prelude.{None, Some}
 use Prim.Native.Nat.{ℕ, zero, suc, ◌+◌, ◌*◌, ◌≤◌, ◌<◌}
-use mathlib.Core.Path.{◌≡◌, refl, ◌∙◌}
+use mathlib.Core.Path.{◌≡◌, refl}
 use mathlib.Core.Logic.{⊎_elim}
 use mathlib.Core.List.{List, [], ◌∷◌}
-use mathlib.Core.Option.{none, some}
 use native.Mathlib.Omega.{arith}
-use lib.ListN.{length, get_or, drop, set, length-set, get_or-eq_default}
-use lib.Seq.{drop-cons, get_or-set_same, get_or-set_other}
+use lib.ListN.{length, get_or, drop, get_or-eq_default}
+use lib.Seq.{drop-cons}
 use borrow.Author.Tests.{eq-eqb, ne_eqb}
 use Rattle.base.proofs.Lists.{drop-end}
 use Rattle.base.proofs.Tests.{lt-or-ge}
@@ -30,31 +30,6 @@ pub record Taking (cells : List ℕ) (out : List Running) (i : ℕ) : Type 0 whe
 past-missing : (cells : List ℕ) (k : ℕ) → length cells ≡ day_length → most_running ≤ k → unit_at cells k ≡ missing
 unfolding unit_in
 past-missing cells k e h = rw (get_or-eq_default cells 0 {n = first_place + k * place_width + 1} (omega arith))
-
-module _ (cells : List ℕ) (out : List Running) where
-  pub taking-none : length cells ≡ day_length → length out ≡ most_running → Taking cells out 0
-  taking-none e f = record { upto = omega arith; long = e; places = f; taken = λ j h. absurd (omega arith) }
-
-  module _ (i : ℕ) (t : Taking cells out i) where
-    pub taking-next : (r : Running) → i < most_running → unit_of r ≡ unit_at cells i → Taking cells (set out i r) (i + 1)
-    taking-next r h e =
-        record {
-          upto = omega arith;
-          long = t.long;
-          places = length-set out i r ∙ t.places;
-          taken = λ j k. ⊎_elim (before j) (here j k) (lt-or-ge j i);
-        }
-      where
-        before : (j : ℕ) → j < i → unit_of (get_or (set out i r) j unused) ≡ unit_at cells j
-        before j l =
-            let other : j ≡ i → ⊥ = λ f. absurd (omega (arith, f, l)) in
-            rw (get_or-set_other out i j r unused other) (t.taken j l)
-
-        here : (j : ℕ) → j < i + 1 → i ≤ j → unit_of (get_or (set out i r) j unused) ≡ unit_at cells j
-        here j k l =
-            let same : j ≡ i = omega arith in
-            let inside : i < length out = omega (arith, t.places) in
-            rw (same, get_or-set_same out i r unused inside) e
 
 -- what all places hold is what is seen, also where more are counted than there are
 from_place :
@@ -88,11 +63,11 @@ taking-over cells out i t h n = from_place cells out i t h 0 n
 
 -- the hour, by its two cells
 module _ (has h : ℕ) where
-  pub hour-none : has ≡ 0 → none ≡ hour_in has h
+  pub hour-none : has ≡ 0 → None ≡ hour_in has h
   unfolding hour_in
   hour-none e = rw (eq-eqb has 0 e)
 
-  pub hour-some : (has ≡ 0 → ⊥) → some h ≡ hour_in has h
+  pub hour-some : (has ≡ 0 → ⊥) → Some h ≡ hour_in has h
   unfolding hour_in
   hour-some e = rw (ne_eqb has 0 e)
 

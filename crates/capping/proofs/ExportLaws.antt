@@ -1,4 +1,5 @@
 -- From what the study and the release answer to the numbers that host programs see. Assumes nothing.
+use Rattle.std.specs.Prelude.{Err, Ok, Result}
 use Prim.Native.Nat.{ℕ, ◌≤◌, ◌<◌}
 use mathlib.Core.Path.{◌≡◌, refl, sym, ◌∙◌, ap}
 use mathlib.Core.Logic.{◌↔◌, ⊎_elim}
@@ -7,7 +8,7 @@ use native.Mathlib.Omega.{arith}
 use lib.ListN.{length, take}
 use borrow.Author.Tests.{eq-eqb, ne_eqb}
 use Rattle.base.proofs.Tests.{eq-or-ne}
-use Rattle.tables.specs.Refusals.{told}
+use Rattle.tables.specs.Refusals.{told, count_of, told_by}
 use Rattle.tables.specs.declared.files.Refusal.{Refusal}
 use Rattle.checking.specs.Files.{Files}
 use Rattle.outcome.specs.Day.{DayView, most_running, release_refusal, released}
@@ -26,13 +27,11 @@ use Rattle.capping.specs.Exports.{
   DayStudied,
   DayReleased,
 }
-use Rattle.engine.specs.Releasing.{release_told, Releases}
-use Rattle.engine.specs.Studying.{study_told, study_count, Studies, AnswersRight}
+use Rattle.engine.specs.Releasing.{Releases}
+use Rattle.engine.specs.Studying.{Studies, AnswersRight}
 use Rattle.engine.specs.View.{view_of}
 use Rattle.engine.specs.declared.day.Day.{Day}
 use Rattle.engine.specs.declared.releasing.Released.{Released}
-use Rattle.engine.specs.declared.studying.Study.{Study}
-use Rattle.engine.specs.declared.studying.Study.TheVariants.{Written, Refused as NotStudied}
 use Rattle.engine.specs.declared.studying.Studied.{Studied}
 use Rattle.capping.proofs.DayCellLaws.{cells-mean}
 
@@ -59,11 +58,11 @@ module _ (cells : List ℕ) (after : DayView) (r : Refusal) where
 
 -- a study of a day with this view
 module _ (day : Day) (d : DayView) (seen : view_of day ≡ d) (f : Files) (old new : List ℕ) (w : Studied) (studies : Studies day f old new w) where
-  tells : study_told w.answer ≡ (studied d f old).told
+  tells : told_by w.answer ≡ (studied d f old).told
   tells = rw seen at studies.tells
 
   pub study-told :
-      {t : Refusal} {r : ℕ} {report : List ℕ} → t ≡ study_told w.answer → r ≡ study_count w.answer → report ≡ reported t →
+      {t : Refusal} {r : ℕ} {report : List ℕ} → t ≡ told_by w.answer → r ≡ count_of w.answer → report ≡ reported t →
       StudyTold (studied d f old) new report r
   study-told answered counted stored =
       record {
@@ -73,7 +72,7 @@ module _ (day : Day) (d : DayView) (seen : view_of day ≡ d) (f : Files) (old n
       }
 
   pub study-kept :
-      (cells kept : List ℕ) → d ≡ day_in cells → {t : Refusal} → t ≡ study_told w.answer →
+      (cells kept : List ℕ) → d ≡ day_in cells → {t : Refusal} → t ≡ told_by w.answer →
       kept ≡ cells_after cells (view_of w.day) t → DayKept cells kept (studied d f old).day (studied d f old).told
   study-kept cells kept is answered held =
       let after : view_of w.day ≡ (studied d f old).day = rw seen at studies.day-after in
@@ -84,17 +83,17 @@ module _ (day : Day) (d : DayView) (seen : view_of day ≡ d) (f : Files) (old n
 
 pub told-right :
     (day : Day) (d : DayView) → view_of day ≡ d → (f : Files) (new : List ℕ) (w : Studied) → AnswersRight day f new w → {r : ℕ} →
-    r ≡ study_count w.answer → ToldRight d f new r
+    r ≡ count_of w.answer → ToldRight d f new r
 told-right day d seen f new w right {r} counted Some-written text = go w.answer refl counted
   where
-    go : (a : Study) → w.answer ≡ a → r ≡ study_count a → (text ≡ take r new) ↔ Right d f text
-    go (Written count) e g = rw g (rw (seen, e) at (right (rw e refl) text))
-    go (NotStudied x) e g = absurd (omega (arith, g, Some-written))
+    go : (a : Result ℕ Refusal) → w.answer ≡ a → r ≡ count_of a → (text ≡ take r new) ↔ Right d f text
+    go (Ok count) e g = rw g (rw (seen, e) at (right (rw e refl) text))
+    go (Err x) e g = absurd (omega (arith, g, Some-written))
 
 -- a study of a day in cells
 pub day-studied :
     (cells kept : List ℕ) (day : Day) → view_of day ≡ day_in cells → (f : Files) (old new : List ℕ) (w : Studied) →
-    Studies day f old new w → {t : Refusal} {r : ℕ} {report : List ℕ} → t ≡ study_told w.answer → r ≡ study_count w.answer →
+    Studies day f old new w → {t : Refusal} {r : ℕ} {report : List ℕ} → t ≡ told_by w.answer → r ≡ count_of w.answer →
     report ≡ reported t → kept ≡ cells_after cells (view_of w.day) t → DayStudied (studied (day_in cells) f old) cells kept new report r
 day-studied cells kept day seen f old new w studies answered counted stored held =
     record {
@@ -105,12 +104,12 @@ day-studied cells kept day seen f old new w studies answered counted stored held
 -- a release from a day in cells
 pub day-released :
     (cells kept : List ℕ) (day : Day) → view_of day ≡ day_in cells → (u : ℕ) (w : Released) → Releases day u w →
-    {t : Refusal} {report : List ℕ} → t ≡ release_told w.answer → report ≡ reported t →
+    {t : Refusal} {report : List ℕ} → t ≡ told_by w.answer → report ≡ reported t →
     kept ≡ cells_after cells (view_of w.day) t → DayReleased cells kept u report t.number
 day-released cells kept day seen u w releases {t} answered stored held =
     let d = day_in cells in
     let o = release_refusal d u in
-    let tells : release_told w.answer ≡ told o = rw seen at releases.tells in
+    let tells : told_by w.answer ≡ told o = rw seen at releases.tells in
     let is : t ≡ told o = answered ∙ tells in
     let after : view_of w.day ≡ released d u = rw seen at releases.day-after in
     record {

@@ -1,9 +1,9 @@
 -- From a day to its cells, one place after the other. Assumes nothing.
+use Rattle.std.specs.Prelude.{None, Option, Some}
 use Prim.Native.Nat.{ℕ, zero, suc, ◌+◌, ◌*◌, ◌≤◌, ◌<◌}
 use mathlib.Core.Path.{◌≡◌, refl, sym, ◌∙◌, ap}
 use mathlib.Core.Bool.{Bool, true, false, cond}
-use mathlib.Core.List.{List, [], ◌∷◌, ◌++◌, append-nil, append_assoc}
-use mathlib.Core.Option.{Option, none, some}
+use mathlib.Core.List.{List, [], ◌∷◌, ◌++◌, append_assoc}
 use native.Mathlib.Nat.{suc-mul, le_of_suc-le-suc, not-suc-le-zero}
 use native.Mathlib.Omega.{arith}
 use lib.Dec.{ltb}
@@ -14,7 +14,7 @@ use Rattle.outcome.specs.Day.{RunningUnit, DayView, most_running}
 use Rattle.running.specs.View.{unit_of, missing, first_units, units_of}
 use Rattle.running.specs.declared.units.Units.{Units}
 use Rattle.running.proofs.ViewLaws.{unused, first-length, counted, first-at}
-use Rattle.engine.specs.View.{hour_of, view_of}
+use Rattle.engine.specs.View.{view_of}
 use Rattle.engine.specs.declared.day.Day.{Day}
 use Rattle.capping.specs.promises.Places.{cells_of_place, placed}
 use Rattle.capping.specs.Days.{first_place, place_width, day_length, hour_cells, unit_cells, place_cells, day_cells}
@@ -72,9 +72,6 @@ pub record Laying (rs : List RunningUnit) (old cells : List ℕ) (i : ℕ) : Typ
   pub upto : i ≤ most_running
   pub long : length cells ≡ day_length
   pub laid : take (first_place + i * place_width) cells ≡ take first_place old ++ take (i * place_width) (place_cells most_running rs)
-
-pub laying-none : (rs : List RunningUnit) (cells : List ℕ) → length cells ≡ day_length → Laying rs cells cells 0
-laying-none rs cells e = record { upto = omega arith; long = e; laid = sym (append-nil (take first_place cells)) }
 
 module _ (rs : List RunningUnit) (old cells : List ℕ) (i : ℕ) (l : Laying rs old cells i) where
   laying-next :
@@ -135,8 +132,8 @@ day-laid d e f g = rw (e, f, g) (front d.hour)
         (o : Option ℕ) →
         (get_or (hour_cells o) 0 0 ∷ get_or (hour_cells o) 1 0 ∷ length d.running ∷ []) ++ place_cells most_running d.running
         ≡ hour_cells o ++ (length d.running ∷ place_cells most_running d.running)
-    front none = refl
-    front (some h) = refl
+    front None = refl
+    front (Some h) = refl
 
 -- three stores in a row
 pub three-stored :
@@ -151,7 +148,7 @@ three-stored p i cells e f =
 -- a day that is laid down: its first cells, then its places
 pub laid-down :
     (day : Day) (old new : List ℕ) {a b : ℕ} → length (set (set (set old 0 a) 1 b) 2 day.units.count) ≡ day_length →
-    a ≡ get_or (hour_cells (hour_of day.hour)) 0 0 → b ≡ get_or (hour_cells (hour_of day.hour)) 1 0 →
+    a ≡ get_or (hour_cells (day.hour)) 0 0 → b ≡ get_or (hour_cells (day.hour)) 1 0 →
     new ≡ take first_place (set (set (set old 0 a) 1 b) 2 day.units.count) ++ place_cells most_running (units_of day.units) →
     new ≡ day_cells (view_of day)
 unfolding view_of

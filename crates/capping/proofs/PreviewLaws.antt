@@ -1,8 +1,9 @@
 -- From what a preview answers to the numbers that host programs see. Assumes nothing.
+use Rattle.tables.specs.Refusals.{told_by}
+use Rattle.std.specs.Prelude.{Some}
 use Prim.Native.Nat.{ℕ}
 use mathlib.Core.Path.{◌≡◌, sym, ◌∙◌, ap}
 use mathlib.Core.List.{List}
-use mathlib.Core.Option.{some}
 use native.Mathlib.Omega.{arith}
 use Rattle.tables.specs.declared.answer.AnswerRow.{AnswerRow}
 use Rattle.tables.specs.declared.files.Refusal.{Refusal}
@@ -12,7 +13,7 @@ use Rattle.outcome.specs.Day.{DayView}
 use Rattle.outcome.specs.Preview.{previewed}
 use Rattle.outcome.proofs.Numbered.{told-previewed}
 use Rattle.outcome.proofs.PreviewLaws.{shown, preview-right}
-use Rattle.engine.specs.Previewing.{preview_told, row_shown, Previews}
+use Rattle.engine.specs.Previewing.{row_shown, Previews}
 use Rattle.engine.specs.View.{view_of}
 use Rattle.engine.specs.declared.day.Day.{Day}
 use Rattle.engine.specs.declared.previewing.Previewed.{Previewed}
@@ -28,7 +29,7 @@ module _
     (cells new : List ℕ) (laid : new ≡ cells_shown cells (row_shown w.answer))
   where
     pub preview-told :
-        {t : Refusal} {report : List ℕ} → t ≡ preview_told w.answer → report ≡ reported t →
+        {t : Refusal} {report : List ℕ} → t ≡ told_by w.answer → report ≡ reported t →
         PreviewTold (previewed d f u) cells new report t.number
     preview-told answered stored =
         let told = answered ∙ (rw seen at previews.tells) in
@@ -38,7 +39,7 @@ module _
           reports = stored ∙ ap reported told;
         }
 
-    pub shown-right : {t : Refusal} → t ≡ preview_told w.answer → ShownRight d f u new t.number
+    pub shown-right : {t : Refusal} → t ≡ told_by w.answer → ShownRight d f u new t.number
     shown-right {t} answered zero row =
         let told : t ≡ (previewed d f u).told = answered ∙ (rw seen at previews.tells) in
         let number : (previewed d f u).told.number ≡ 0 = omega (arith, ap (λ (x : Refusal). x.number) told, zero) in
@@ -46,6 +47,6 @@ module _
         let is-shown = shown d f u accepted in
         let held = laid ∙ ap (cells_shown cells) ((rw seen at previews.shows) ∙ is-shown) in
         let exactly = preview-right d f u accepted row in (
-          λ same. exactly.0 (is-shown ∙ ap some (sym (same_row (same ∙ held)))),
+          λ same. exactly.0 (is-shown ∙ ap Some (sym (same_row (same ∙ held)))),
           λ right. sym (held ∙ ap (cells_shown cells) (sym is-shown ∙ exactly.1 right)),
         )

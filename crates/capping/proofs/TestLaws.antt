@@ -1,4 +1,6 @@
 -- From what the test answers, of a run of amounts or fed, to the numbers that host programs see. Assumes nothing.
+use Rattle.std.specs.Prelude.{None, Option, Some}
+use Rattle.pivotal.specs.declared.Tested.{Tested}
 use Prim.Native.Nat.{ℕ}
 use mathlib.Core.Path.{◌≡◌, refl, ◌∙◌, ap}
 use mathlib.Core.List.{List}
@@ -6,25 +8,22 @@ use lib.Dec.{eqb}
 use Rattle.base.specs.promises.Counting.{one}
 use Rattle.pivotal.specs.Fed.{Answers}
 use Rattle.pivotal.specs.Test.{F, verdict_letter, finding, TestOutcome, test_outcome}
-use Rattle.pivotal.specs.declared.Answer.{Answer}
-use Rattle.pivotal.specs.declared.Answer.TheVariants.{Tested, Refused}
-use Rattle.pivotal.specs.declared.Finding.{Finding}
 use Rattle.pivotal.specs.declared.feeding.FedTest.{FedTest}
 use Rattle.capping.specs.Exports.{test_number, test_left}
 use Rattle.capping.specs.Fed.{fed_in, FedTold}
 
 -- by what was answered
-module _ {a : Answer} where
-  module _ {l : ℕ} {v : Finding} (e : a ≡ Tested l v) where
-    pub tested-number : {n : ℕ} → n ≡ one (eqb (verdict_letter (finding v)) (verdict_letter F)) → n ≡ test_number (test_outcome a)
+module _ {a : Option Tested} where
+  module _ {t : Tested} (e : a ≡ Some t) where
+    pub tested-number : {n : ℕ} → n ≡ one (eqb (verdict_letter (finding t.found)) (verdict_letter F)) → n ≡ test_number (test_outcome a)
     unfolding test_number
     tested-number g = rw e g
 
-    pub tested-left : (old : ℕ) → l ≡ test_left (test_outcome a) old
+    pub tested-left : (old : ℕ) → t.left ≡ test_left (test_outcome a) old
     unfolding test_left
     tested-left old = rw e refl
 
-  module _ (e : a ≡ Refused) where
+  module _ (e : a ≡ None) where
     pub refused-number : 11 ≡ test_number (test_outcome a)
     unfolding test_number
     refused-number = rw e refl

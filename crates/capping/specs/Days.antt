@@ -1,7 +1,6 @@
 -- A day as host programs keep it, in a fixed array of cells: what any cells mean as a day, and the cells that stand for a day.
 -- Assumes nothing: any cells whatever are a day, well-formed or not.
-use Rattle.std.specs.Prelude.{ℕ, zero, suc, ◌+◌, ◌*◌, cond, ◌||◌, List, [], ◌∷◌, ◌++◌, eqb, length, get_or}
-use Rattle.std.proofs.Math.Option.{Option, none, some}
+use Rattle.std.specs.Prelude.{ℕ, zero, suc, ◌+◌, ◌*◌, cond, ◌||◌, List, [], ◌∷◌, ◌++◌, eqb, length, get_or, None, Option, Some}
 use Rattle.tables.specs.Rows.{kind_of, letter_of}
 use Rattle.tables.specs.Table.{M, C}
 use Rattle.outcome.specs.Day.{RunningUnit, DayView, most_running}
@@ -19,7 +18,7 @@ day_length = first_place + most_running * place_width
 
 -- the hour, none where the first cell is 0
 unfoldable pub hour_in : ℕ → ℕ → Option ℕ
-hour_in has h = cond (eqb has 0) none (some h)
+hour_in has h = cond (eqb has 0) None (Some h)
 
 -- a unit by its three cells; one whose kind is neither letter is seen with the number 0, which no unit has
 unfoldable pub unit_in : ℕ → ℕ → ℕ → RunningUnit
@@ -43,8 +42,8 @@ day_in cells = record { hour = hour_in (get_or cells 0 0) (get_or cells 1 0); ru
 
 -- the cells of an hour
 unfoldable pub hour_cells : Option ℕ → List ℕ
-hour_cells none = 0 ∷ 0 ∷ []
-hour_cells (some h) = 1 ∷ h ∷ []
+hour_cells None = 0 ∷ 0 ∷ []
+hour_cells (Some h) = 1 ∷ h ∷ []
 
 -- the cells of a unit
 abbrev pub unit_cells : RunningUnit → List ℕ

@@ -1,7 +1,6 @@
 -- What the study, the preview, the release, the test and tidying promise host programs, who know an answer by its numbers: document 01's number,
 -- file and place, or zeros, and 0 for P and 1 for F. Assumes nothing.
-use Rattle.std.specs.Prelude.{ℕ, ◌<◌, ◌≡◌, ◌↔◌, cond, List, [], ◌∷◌, eqb, take}
-use Rattle.std.proofs.Math.Option.{Option, none, some}
+use Rattle.std.specs.Prelude.{ℕ, ◌<◌, ◌≡◌, ◌↔◌, cond, List, [], ◌∷◌, eqb, take, None, Option, Some}
 use Rattle.tables.specs.Refusals.{bare_refusal, told}
 use Rattle.tables.specs.declared.answer.AnswerRow.{AnswerRow}
 use Rattle.tables.specs.declared.files.File.{File}
@@ -54,8 +53,8 @@ row_cells r = r.unit ∷ r.supplier ∷ r.verdict ∷ r.left ∷ r.schedule ∷ 
 
 -- the lent cells after a preview: those of the row, and where it is refused not one has changed
 abbrev pub cells_shown : List ℕ → Option AnswerRow → List ℕ
-cells_shown cells none = cells
-cells_shown cells (some r) = row_cells r
+cells_shown cells None = cells
+cells_shown cells (Some r) = row_cells r
 
 -- a preview: 0, or the number of the refusal
 pub record PreviewTold (o : Previewing) (cells new report : List ℕ) (r : ℕ) : Type 0 where
@@ -84,17 +83,17 @@ test_left o old = cond (eqb o.told.number 0) o.left old
 -- a file is named by its number
 unfoldable pub file_numbered : ℕ → Option File
 file_numbered n =
-    cond (eqb n 1) (some Constraint) (cond (eqb n 2) (some Supply) (cond (eqb n 3) (some Schedules) none))
+    cond (eqb n 1) (Some Constraint) (cond (eqb n 2) (Some Supply) (cond (eqb n 3) (Some Schedules) None))
 
 -- where there is no such file, no header is its header: 2, with no file to name
 abbrev pub tidied_as : Option File → List ℕ → List ℕ → Tidying
-tidied_as none s buffer = tidying [] buffer (some (bare_refusal 2))
-tidied_as (some f) s buffer = tidied f s buffer
+tidied_as None s buffer = tidying [] buffer (Some (bare_refusal 2))
+tidied_as (Some f) s buffer = tidied f s buffer
 
 -- how long a buffer for a tidy file has to be, 0 where there is no such file
 abbrev pub longest_as : Option File → ℕ
-longest_as none = 0
-longest_as (some f) = longest_tidy f
+longest_as None = 0
+longest_as (Some f) = longest_tidy f
 
 abbrev pub TidyTold : Tidying → List ℕ → List ℕ → ℕ → Type 0
 TidyTold o new report r = WritingTold o.told o.count o.buffer new report r

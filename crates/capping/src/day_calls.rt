@@ -7,7 +7,7 @@ ghost use Rattle.outcome.specs.Study.{studied};
 ghost use Rattle.capping.specs.Days.{day_in, day_cells};
 ghost use Rattle.capping.specs.Exports.{DayStudied, DayReleased, ToldRight};
 
-use crate::calls::{count_of, keep, report_on, told_by_release, told_by_study};
+use crate::calls::{count_of, keep, report_on, told_by};
 use crate::days::{CELLS, day_in, lay_down};
 use engine::Day;
 
@@ -40,7 +40,7 @@ pub extern "C" fn capping_day_study(
     let studied = given.study(constraint, supply, schedules, curves, parents, answer);
     let study = studied.answer;
     let after = studied.day;
-    let told = told_by_study(study);
+    let told = told_by(study);
     keep(told, after, day);
     report_on(told, report);
     count_of(study)
@@ -59,7 +59,7 @@ pub extern "C" fn capping_day_release(
     let released = given.release(unit);
     let release = released.answer;
     let after = released.day;
-    let told = told_by_release(release);
+    let told = told_by(release);
     keep(told, after, day);
     report_on(told, report);
     told.number

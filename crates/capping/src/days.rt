@@ -1,13 +1,14 @@
 // A day as host programs keep it: a fixed array of cells that is lent to each call. Any cells whatever
-// are a day; whether it is well-formed is asked of the day that they mean. Assumes nothing of them.
+// are a day; whether it is well-formed is asked of the day that they mean. Numbers stand for what is there and
+// for kinds, since hosts in C keep the cells. Assumes nothing of them.
 ghost use Rattle.std.specs.Prelude.{◌≡◌, cond, [], ◌∷◌, ◌++◌, ◌<◌, length, get_or, take};
 ghost use Rattle.outcome.specs.Day.{most_running};
 ghost use Rattle.running.specs.View.{unit_of, units_of};
-ghost use Rattle.engine.specs.View.{hour_of, view_of};
+ghost use Rattle.engine.specs.View.{view_of};
 ghost use Rattle.capping.specs.promises.Places.{cells_of_place, placed};
 ghost use Rattle.capping.specs.Days.{first_place, day_length, hour_in, unit_in, unit_at, units_from, day_in, hour_cells, unit_cells, place_cells, day_cells};
 
-use engine::{Day, LastHour};
+use engine::Day;
 use running::{Running, Units};
 use tables::{C, Kind, M, letter_of};
 
@@ -51,14 +52,10 @@ pub(crate) fn day_in(cells: &[u64; CELLS]) -> Day
     Day { hour, units }
 }
 
-fn hour_in(has: u64, hour: u64) -> LastHour
-    ensures { hour_of result ≡ hour_in has hour }
+fn hour_in(has: u64, hour: u64) -> Option<u64>
+    ensures { result ≡ hour_in has hour }
 {
-    if has == NO_HOUR {
-        LastHour::Fresh
-    } else {
-        LastHour::At(hour)
-    }
+    if has == NO_HOUR { None } else { Some(hour) }
 }
 
 // All places are taken over; how many of them run is for the count to say.
@@ -68,11 +65,9 @@ fn units_in(cells: &[u64]) -> Units
 {
     let none = Units::none();
     let mut running = none.running;
-    let mut i = 0;
-    while i < Day::UNITS {
+    for i in 0..Day::UNITS {
         let r = unit_at(cells, i);
         running[i] = r;
-        i += 1;
     }
     let count = cells[COUNT] as usize;
     Units { count, running }
@@ -124,21 +119,21 @@ pub(crate) fn lay_down(day: Day, cells: &mut [u64; CELLS])
     lay_units(units, cells);
 }
 
-fn has_hour(hour: LastHour) -> u64
-    ensures { result ≡ get_or (hour_cells (hour_of hour)) 0 0 }
+fn has_hour(hour: Option<u64>) -> u64
+    ensures { result ≡ get_or (hour_cells hour) 0 0 }
 {
     match hour {
-        LastHour::Fresh => NO_HOUR,
-        LastHour::At(_) => SOME_HOUR,
+        None => NO_HOUR,
+        Some(_) => SOME_HOUR,
     }
 }
 
-fn hour_or_zero(hour: LastHour) -> u64
-    ensures { result ≡ get_or (hour_cells (hour_of hour)) 1 0 }
+fn hour_or_zero(hour: Option<u64>) -> u64
+    ensures { result ≡ get_or (hour_cells hour) 1 0 }
 {
     match hour {
-        LastHour::Fresh => 0,
-        LastHour::At(h) => h,
+        None => 0,
+        Some(h) => h,
     }
 }
 
@@ -148,11 +143,9 @@ fn lay_units(units: Units, cells: &mut [u64])
     ensures { cells.new ≡ take first_place cells.old ++ place_cells most_running (units_of units) }
 {
     let count = units.count;
-    let mut i = 0;
-    while i < Day::UNITS {
+    for i in 0..Day::UNITS {
         let r = units.running[i];
         lay_place(place_of(r, i < count), i, cells);
-        i += 1;
     }
 }
 

@@ -7,7 +7,7 @@ ghost use Rattle.outcome.specs.Study.{studied};
 ghost use Rattle.pivotal.specs.Test.{tested};
 ghost use Rattle.capping.specs.Exports.{StudyTold, ToldRight, test_number, test_left};
 
-use crate::calls::{count_of, report_on, told_by_study, told_by_test};
+use crate::calls::{count_of, report_on, told_by, told_by_test};
 use engine::Day;
 
 // Studies a fresh day; curves or parents of no bytes are none. Answers how many bytes were written, 0 where it is
@@ -28,7 +28,7 @@ pub extern "C" fn capping_study(
     let day = Day::fresh();
     let studied = day.study(constraint, supply, schedules, curves, parents, answer);
     let study = studied.answer;
-    report_on(told_by_study(study), report);
+    report_on(told_by(study), report);
     count_of(study)
 }
 

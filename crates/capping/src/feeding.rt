@@ -7,7 +7,7 @@ ghost use Rattle.capping.specs.Fed.{fed_cells, fed_in, FedTold};
 use crate::calls::told_by_test;
 use pivotal::{FedTest, Largest};
 
-// How many cells a test has.
+// How many cells a test has: a host in C keeps numbers.
 const CELLS: usize = 6;
 
 // Begins the test of the supplier at `place`.

@@ -7,10 +7,10 @@ ghost use Rattle.outcome.specs.Preview.{previewed};
 ghost use Rattle.capping.specs.Days.{day_in};
 ghost use Rattle.capping.specs.Exports.{cells_shown, PreviewTold, ShownRight};
 
-use crate::calls::{report_on, told_by_preview};
+use crate::calls::{report_on, told_by};
 use crate::days::{CELLS, day_in};
 use cells::answer::WIDTH;
-use engine::Preview;
+use tables::{AnswerRow, Refusal};
 
 // Shows the row that a study of the day would write for the unit; curves or parents of no bytes are none. Answers 0, or
 // the number of the refusal, as in the report; where it is refused the row is left as it was.
@@ -32,22 +32,22 @@ pub extern "C" fn capping_preview(
     let given = day_in(day);
     let previewed = given.preview(constraint, supply, schedules, curves, parents, unit);
     let preview = previewed.answer;
-    let told = told_by_preview(preview);
+    let told = told_by(preview);
     show(preview, row);
     report_on(told, report);
     told.number
 }
 
 // Stores the fields of the row that is shown, if there is one.
-fn show(preview: Preview, row: &mut [u64; WIDTH])
+fn show(preview: Result<AnswerRow, Refusal>, row: &mut [u64; WIDTH])
     ensures { row.new ≡ cells_shown row.old (row_shown preview) }
 {
     match preview {
-        Preview::Row(r) => {
+        Ok(r) => {
             *row = [
                 r.unit, r.supplier, r.verdict, r.left, r.schedule, r.kind, r.cost,
             ];
         }
-        Preview::Refused(_) => {}
+        Err(_) => {}
     }
 }

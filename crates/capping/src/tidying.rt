@@ -4,14 +4,14 @@ ghost use Rattle.std.specs.Prelude.{◌≡◌};
 ghost use Rattle.tidy.specs.promises.Tidies.{Tidies};
 ghost use Rattle.capping.specs.Exports.{file_numbered, tidied_as, longest_as, TidyTold};
 
-use crate::calls::{report_on, tidy_count, told_by_tidy};
+use crate::calls::{count_of, report_on, told_by};
 use tables::Refusal;
 use tidy::{
-    Tidy, longest_constraint, longest_schedules, longest_supply, tidy_constraint, tidy_schedules,
+    longest_constraint, longest_schedules, longest_supply, tidy_constraint, tidy_schedules,
     tidy_supply,
 };
 
-// The files by number.
+// The files by number, as C has them.
 const CONSTRAINT: u64 = 1;
 
 const SUPPLY: u64 = 2;
@@ -33,11 +33,11 @@ pub extern "C" fn capping_tidy(
     ensures { TidyTold (tidied_as (file_numbered file) bytes.now tidy.old) tidy.new report.new result }
 {
     let tidied = tidy_numbered(file, bytes, tidy);
-    report_on(told_by_tidy(tidied), report);
-    tidy_count(tidied)
+    report_on(told_by(tidied), report);
+    count_of(tidied)
 }
 
-fn tidy_numbered(file: u64, bytes: &[u8], tidy: &mut [u8]) -> Tidy
+fn tidy_numbered(file: u64, bytes: &[u8], tidy: &mut [u8]) -> Result<usize, Refusal>
     ensures { Tidies (tidied_as (file_numbered file) bytes.now tidy.old) tidy.new result }
 {
     if file == CONSTRAINT {
@@ -49,11 +49,7 @@ fn tidy_numbered(file: u64, bytes: &[u8], tidy: &mut [u8]) -> Tidy
     if file == SCHEDULES {
         return tidy_schedules(bytes, tidy);
     }
-    Tidy::Refused(Refusal {
-        number: MISFIT,
-        file: 0,
-        place: 0,
-    })
+    Err(Refusal::bare(MISFIT))
 }
 
 // How many bytes a buffer must have so that no tidy file of this number is refused with 30; 0 where there is no

@@ -1,9 +1,9 @@
 -- That the check accepts only files of which all of `Kept` holds. Assumes nothing.
+use Rattle.std.specs.Prelude.{None, Option, Some}
 use Prim.Native.Nat.{ℕ, suc, ◌≤◌}
 use mathlib.Core.Path.{◌≡◌, refl}
 use mathlib.Core.Bool.{Bool, true, false, cond}
 use mathlib.Core.List.{List, [], ◌∷◌, map}
-use mathlib.Core.Option.{Option, none, some}
 use native.Mathlib.Omega.{arith}
 use lib.ListN.{length, get_or}
 use borrow.Author.Tests.{ltb-false}
@@ -39,11 +39,11 @@ all-mapped :
 all-mapped f g all_none = all_none
 all-mapped f g (all_more {x = x} p a) = all_more (g x p) (all-mapped f g a)
 
-permitted : (f : File) (s : List ℕ) → refusal f s ≡ none → All (PermittedCells (table f).columns) (rows_as_cells f s)
+permitted : (f : File) (s : List ℕ) → refusal f s ≡ None → All (PermittedCells (table f).columns) (rows_as_cells f s)
 unfolding rows_as_cells
 permitted f s e = (accepted f s e).permitted
 
-pub constraint-kept : (c : List ℕ) → refusal Constraint c ≡ none → PermittedConstraint (constraint_of c)
+pub constraint-kept : (c : List ℕ) → refusal Constraint c ≡ None → PermittedConstraint (constraint_of c)
 unfolding constraint_of rows_as_cells
 constraint-kept c e = go (rows_as_cells Constraint c) (permitted Constraint c e) (rw (rows-count Constraint c) (accepted Constraint c e).fewest)
   where
@@ -51,19 +51,19 @@ constraint-kept c e = go (rows_as_cells Constraint c) (permitted Constraint c e)
     go [] a h = absurd (omega arith)
     go (x ∷ xs) (all_more p a) h = Permitted.constraint-permitted p
 
-pub supply-kept : (s : List ℕ) → refusal Supply s ≡ none → All PermittedSupply (supply_of s)
+pub supply-kept : (s : List ℕ) → refusal Supply s ≡ None → All PermittedSupply (supply_of s)
 unfolding supply_of
 supply-kept s e = all-mapped supply_row (λ (x : List ℕ) p. Permitted.supply-permitted p) (permitted Supply s e)
 
-pub schedules-kept : (h : List ℕ) → refusal Schedules h ≡ none → All PermittedSchedule (schedules_of h)
+pub schedules-kept : (h : List ℕ) → refusal Schedules h ≡ None → All PermittedSchedule (schedules_of h)
 unfolding schedules_of
 schedules-kept h e = all-mapped schedule_row (λ (x : List ℕ) p. Permitted.schedule-permitted p) (permitted Schedules h e)
 
-pub curves-kept : (k : List ℕ) → refusal Curves (or_header Curves k) ≡ none → All PermittedPoint (curves_of k)
+pub curves-kept : (k : List ℕ) → refusal Curves (or_header Curves k) ≡ None → All PermittedPoint (curves_of k)
 unfolding curves_of
 curves-kept k e = all-mapped point_row (λ (x : List ℕ) q. Permitted.point-permitted q) (permitted Curves (or_header Curves k) e)
 
-pub parents-kept : (p : List ℕ) → refusal Parents (or_header Parents p) ≡ none → All PermittedParent (parents_of p)
+pub parents-kept : (p : List ℕ) → refusal Parents (or_header Parents p) ≡ None → All PermittedParent (parents_of p)
 unfolding parents_of
 parents-kept p e = all-mapped parent_row (λ (x : List ℕ) q. Permitted.parent-permitted q) (permitted Parents (or_header Parents p) e)
 
@@ -73,12 +73,12 @@ record Few (us ss : List ℕ) : Type 0 where
   few-suppliers : length ss ≤ most_suppliers
 
 few-from :
-    (us ss : List ℕ) (k : ℕ) (rs : List SupplyRow) → Few us ss → over_limit_from us ss k rs ≡ none →
+    (us ss : List ℕ) (k : ℕ) (rs : List SupplyRow) → Few us ss → over_limit_from us ss k rs ≡ None →
     Few (numbers_from (λ (r : SupplyRow). r.unit) us rs) (numbers_from (λ (r : SupplyRow). r.supplier) ss rs)
 unfolding over_limit_from numbers_from too_many
 few-from us ss k [] f e = f
 few-from us ss k (r ∷ rs) f e =
-    go (too_many (length us') (length ss')) refl (λ (g : Few us' ss') (d : more ≡ none). few-from us' ss' (suc k) rs g d) e
+    go (too_many (length us') (length ss')) refl (λ (g : Few us' ss') (d : more ≡ None). few-from us' ss' (suc k) rs g d) e
   where
     us' : List ℕ
     us' = inserted r.unit us
@@ -92,7 +92,7 @@ few-from us ss k (r ∷ rs) f e =
     Later : Type 0
     Later = Few (numbers_from (λ (q : SupplyRow). q.unit) us' rs) (numbers_from (λ (q : SupplyRow). q.supplier) ss' rs)
 
-    go : (t : Bool) → too_many (length us') (length ss') ≡ t → (Few us' ss' → more ≡ none → Later) → cond t (some k) more ≡ none → Later
+    go : (t : Bool) → too_many (length us') (length ss') ≡ t → (Few us' ss' → more ≡ None → Later) → cond t (Some k) more ≡ None → Later
     go true q later d = let z : ◌≡◌ {A = ℕ} 0 1 = cc in absurd (omega arith)
     go false q later d =
         later
@@ -102,17 +102,17 @@ few-from us ss k (r ∷ rs) f e =
         })
         d
 
-few : (rs : List SupplyRow) → over_limit rs ≡ none → Few (units rs) (suppliers rs)
+few : (rs : List SupplyRow) → over_limit rs ≡ None → Few (units rs) (suppliers rs)
 unfolding over_limit units suppliers numbers_of
 few rs e = few-from [] [] 1 rs (record { few-units = omega arith; few-suppliers = omega arith }) e
 
-pub units-few : (rs : List SupplyRow) → over_limit rs ≡ none → length (units rs) ≤ most_units
+pub units-few : (rs : List SupplyRow) → over_limit rs ≡ None → length (units rs) ≤ most_units
 units-few rs e = (few rs e).few-units
 
-pub suppliers-few : (rs : List SupplyRow) → over_limit rs ≡ none → length (suppliers rs) ≤ most_suppliers
+pub suppliers-few : (rs : List SupplyRow) → over_limit rs ≡ None → length (suppliers rs) ≤ most_suppliers
 suppliers-few rs e = (few rs e).few-suppliers
 
-pub kept : (f : Files) → check_refusal f ≡ none → Kept f
+pub kept : (f : Files) → check_refusal f ≡ None → Kept f
 unfolding point_refusals affiliate_refusals alone_refusals market_refusals schedules_refusals curves_refusals units_refusals beside_refusals check_refusals check_refusal
 kept f e =
     let c = f.constraint in

@@ -1,9 +1,9 @@
 -- All files together, from what checking the market and then schedules answered: the first refusal of all, or the rows
 -- that stand in the runs. Assumes nothing.
+use Rattle.std.specs.Prelude.{Err, None, Ok, Option, Result, Some}
 use Prim.Native.Nat.{ℕ, ◌<◌}
 use mathlib.Core.Path.{◌≡◌, refl, sym, ◌∙◌}
 use mathlib.Core.List.{List}
-use mathlib.Core.Option.{Option, none, some}
 use native.Mathlib.Omega.{arith}
 use lib.ListN.{length, take}
 use Rattle.base.specs.Search.{first_of}
@@ -16,32 +16,30 @@ use Rattle.supply.specs.Supply.{most_units, units, over_limit}
 use Rattle.checking.specs.promises.Market.{market_of, market_unless, MarketChecked, MarketFits}
 use Rattle.checking.specs.Files.{files, supply_of, alone_refusals, market_refusals, beside_refusals, check_refusals, check_refusal}
 use Rattle.checking.specs.declared.market.Market.{Market}
-use Rattle.checking.specs.declared.market.MarketCheck.{MarketCheck}
-use Rattle.checking.specs.declared.market.MarketCheck.TheVariants.{Passed, Refused}
 use Rattle.base.proofs.FirstLaws.{first-of-part, first-of-rest}
 use Rattle.checking.proofs.KeptLaws.{constraint-kept, units-few}
 
-market-answered : (o : Option Refusal) (c s : List ℕ) {m : Market} → market_unless o c s ≡ Passed m → (o ≡ none) × (m ≡ market_of c s)
-market-answered none c s e = (refl, cc)
-market-answered (some x) c s e = let z : ◌≡◌ {A = ℕ} 0 1 = cc in absurd (omega arith)
+market-answered : (o : Option Refusal) (c s : List ℕ) {m : Market} → market_unless o c s ≡ Ok m → (o ≡ None) × (m ≡ market_of c s)
+market-answered None c s e = (refl, cc)
+market-answered (Some x) c s e = let z : ◌≡◌ {A = ℕ} 0 1 = cc in absurd (omega arith)
 
-refusal-answered : (o : Option Refusal) (c s : List ℕ) {x : Refusal} → market_unless o c s ≡ Refused x → o ≡ some x
-refusal-answered none c s e = let z : ◌≡◌ {A = ℕ} 0 1 = cc in absurd (omega arith)
-refusal-answered (some y) c s e = cc
+refusal-answered : (o : Option Refusal) (c s : List ℕ) {x : Refusal} → market_unless o c s ≡ Err x → o ≡ Some x
+refusal-answered None c s e = let z : ◌≡◌ {A = ℕ} 0 1 = cc in absurd (omega arith)
+refusal-answered (Some y) c s e = cc
 
-module _ (c s supply us : List ℕ) {q : MarketCheck} (market : MarketChecked c s supply us q) where
+module _ (c s supply us : List ℕ) {q : Result Market Refusal} (market : MarketChecked c s supply us q) where
   -- the market is refused
-  pub market-refused : (h k p : List ℕ) {x : Refusal} → q ≡ Refused x → check_refusal (files c s h k p) ≡ some x
+  pub market-refused : (h k p : List ℕ) {x : Refusal} → q ≡ Err x → check_refusal (files c s h k p) ≡ Some x
   unfolding check_refusal check_refusals
   market-refused h k p {x} e =
       first-of-part (market_refusals c s) _ x
       (refusal-answered (first_of (market_refusals c s)) c s (sym market.answers ∙ e))
 
-  module _ (m : Market) (e : q ≡ Passed m) where
-    pub told : (first_of (market_refusals c s) ≡ none) × (m ≡ market_of c s)
+  module _ (m : Market) (e : q ≡ Ok m) where
+    pub told : (first_of (market_refusals c s) ≡ None) × (m ≡ market_of c s)
     told = market-answered (first_of (market_refusals c s)) c s (sym market.answers ∙ e)
 
-    pub market-kept : (refusal Constraint c ≡ none) × (refusal Supply s ≡ none) × (over_limit (supply_of s) ≡ none)
+    pub market-kept : (refusal Constraint c ≡ None) × (refusal Supply s ≡ None) × (over_limit (supply_of s) ≡ None)
     unfolding market_refusals alone_refusals
     market-kept =
         let (constraint-read, later) = first-of-none (refusal Constraint c) _ told.0 in

@@ -1,27 +1,24 @@
 -- Laws of checking parents: one for each way through the code, and that a file of no bytes names none. Assumes nothing.
+use Rattle.std.specs.Prelude.{Err, None, Ok, Option, Result, Some, option_map}
 use Prim.Native.Nat.{ℕ, ◌≤◌}
 use mathlib.Core.Path.{◌≡◌, refl, sym, ◌∙◌, ap}
 use mathlib.Core.List.{List, [], ◌∷◌}
-use mathlib.Core.Option.{Option, none, some, map, get_or}
 use native.Mathlib.Omega.{arith}
 use lib.ListN.{length}
 use Rattle.base.specs.Search.{first_of}
 use Rattle.base.proofs.Elements.{all-mem}
 use Rattle.base.proofs.FirstLaws.{first-of-one, first-of-here, first-of-later}
-use Rattle.base.proofs.Places.{place_is, at-odds-none, first-none-at}
 use Rattle.tables.specs.promises.Laying.{FileRead, room}
 use Rattle.tables.specs.Reading.{refusal}
 use Rattle.tables.specs.Rows.{SupplyRow, ParentRow}
 use Rattle.tables.specs.declared.files.File.TheVariants.{Parents}
-use Rattle.tables.specs.declared.files.Reading.{Reading}
-use Rattle.tables.specs.declared.files.Reading.TheVariants.{Rows as RowsRead, Refused as NotRead}
 use Rattle.tables.specs.declared.files.Refusal.{Refusal}
 use Rattle.tables.proofs.Accepted.{accepted}
 use Rattle.tables.proofs.Starred.{starred_all}
 use Rattle.tables.specs.Refusals.{refused}
 use Rattle.tables.specs.promises.FlatRows.{supply_rows, parent_rows}
 use Rattle.cells.proofs.RowViews.{parent-length}
-use Rattle.affiliates.specs.Affiliates.{same_supplier, given_twice, returns, ringed, grouped}
+use Rattle.affiliates.specs.Affiliates.{given_twice, ringed, grouped}
 use Rattle.affiliates.specs.promises.Laying.{ParentCells, ParentsIn, ParentsLaid, headed}
 use Rattle.affiliates.proofs.GroupLaws.{no-parents}
 use Rattle.affiliates.proofs.GroupingLaws.{headed-grouped}
@@ -36,7 +33,7 @@ use Rattle.checking.proofs.Computing.{files_all}
 
 -- refused, and supply as it was
 module _ (o : Option Refusal) (ps : List ParentRow) (n : ℕ) (supply : List ℕ) where
-  groups-refused : (x : Refusal) → o ≡ some x → Groups o ps n supply supply (NotRead x)
+  groups-refused : (x : Refusal) → o ≡ Some x → Groups o ps n supply supply (Err x)
   groups-refused x e =
       record { answers = rw e; by-groups = λ z. some-none (sym e ∙ z); as_before = λ _ _. refl }
 
@@ -45,7 +42,7 @@ pub no_rows : parents_of [] ≡ []
 unfolding files_all starred_all
 no_rows = refl
 
-pub none-refused : first_of (alone_refusals Parents []) ≡ none
+pub none-refused : first_of (alone_refusals Parents []) ≡ None
 unfolding files_all starred_all affiliates_all
 none-refused = refl
 
@@ -53,7 +50,7 @@ pub no-groups : (p : List ℕ) → length p ≡ 0 → (rs : List SupplyRow) → 
 no-groups [] e rs = rw no_rows (no-parents rs)
 no-groups (b ∷ p) e rs = absurd (omega arith)
 
-pub no-parents-passed : (p : List ℕ) → length p ≡ 0 → (n : ℕ) (supply : List ℕ) → ParentsChecked p n supply supply (RowsRead 0)
+pub no-parents-passed : (p : List ℕ) → length p ≡ 0 → (n : ℕ) (supply : List ℕ) → ParentsChecked p n supply supply (Ok 0)
 no-parents-passed [] e n supply =
     record {
       answers = rw (none-refused, no_rows);
@@ -63,41 +60,37 @@ no-parents-passed [] e n supply =
 no-parents-passed (b ∷ p) e n supply = absurd (omega arith)
 
 -- rows of parents, held to 35 and 36
-module _ (count : ℕ) (cells run : List ℕ) (twice : ℕ) (laid : ParentsLaid (parent_rows count cells) run twice) where
+module _ (count : ℕ) (cells run : List ℕ) (twice : Option ℕ) (laid : ParentsLaid (parent_rows count cells) run twice) where
   abbrev ps : List ParentRow
   ps = parent_rows count cells
 
   pub rows-given-twice :
-      (n : ℕ) (supply : List ℕ) → (twice ≡ 0 → ⊥) → {x : Refusal} → x ≡ refused 35 Parents twice →
-      RowsGrouped ps n supply supply (NotRead x)
+      (n : ℕ) (supply : List ℕ) {p : ℕ} → twice ≡ Some p → {x : Refusal} → x ≡ refused 35 Parents p →
+      RowsGrouped ps n supply supply (Err x)
   unfolding affiliate_refusals
   rows-given-twice n supply h {x} f =
-      groups-refused _ ps n supply x (first-of-here _ _ _ (rw (place_is (given_twice ps) twice laid.place h, f)))
+      groups-refused _ ps n supply x (first-of-here _ _ _ (rw (← laid.place, h, f)))
 
-  module _ (z : twice ≡ 0) where
-    given-once : given_twice ps ≡ none
-    unfolding given_twice
-    given-once = at-odds-none same_supplier [] 0 ps (sym laid.place ∙ z)
+  module _ (z : twice ≡ None) where
+    given-once : given_twice ps ≡ None
+    given-once = sym laid.place ∙ z
 
     pub parents-in : ParentsIn ps run
     parents-in = laid.all-parents given-once
 
-    module _ (n : ℕ) (supply : List ℕ) (ring : ℕ) (told : ring ≡ get_or (ringed ps) 0) where
-      ring-first : first_of (affiliate_refusals ps) ≡ map (refused 36 Parents) (ringed ps)
+    module _ (n : ℕ) (supply : List ℕ) (ring : Option ℕ) (told : ring ≡ ringed ps) where
+      ring-first : first_of (affiliate_refusals ps) ≡ option_map (refused 36 Parents) (ringed ps)
       unfolding affiliate_refusals
-      ring-first = first-of-later _ _ (ap (map (refused 35 Parents)) given-once) ∙ first-of-one _
+      ring-first = first-of-later _ _ (ap (option_map (refused 35 Parents)) given-once) ∙ first-of-one _
 
-      pub rows-ringed : (ring ≡ 0 → ⊥) → {x : Refusal} → x ≡ refused 36 Parents ring → RowsGrouped ps n supply supply (NotRead x)
-      rows-ringed h {x} f =
-          groups-refused _ ps n supply x (ring-first ∙ rw (place_is (ringed ps) ring told h, f))
+      pub rows-ringed : {p : ℕ} → ring ≡ Some p → {x : Refusal} → x ≡ refused 36 Parents p → RowsGrouped ps n supply supply (Err x)
+      rows-ringed h {x} f = groups-refused _ ps n supply x (ring-first ∙ rw (← told, h, f))
 
       pub rows-grouped :
-          ring ≡ 0 → (new : List ℕ) → supply_rows n new ≡ headed run count (supply_rows n supply) →
-          RowsGrouped ps n supply new (RowsRead count)
-      unfolding ringed
+          ring ≡ None → (new : List ℕ) → supply_rows n new ≡ headed run count (supply_rows n supply) →
+          RowsGrouped ps n supply new (Ok count)
       rows-grouped y new heads =
-          let unringed : ringed ps ≡ none = first-none-at (returns ps) 0 ps (sym told ∙ y) in
-          let none-broken : first_of (affiliate_refusals ps) ≡ none = ring-first ∙ ap (map (refused 36 Parents)) unringed in
+          let none-broken : first_of (affiliate_refusals ps) ≡ None = ring-first ∙ ap (option_map (refused 36 Parents)) (sym told ∙ y) in
           let counted = parent-length count cells in
           record {
             answers = rw (none-broken, counted);
@@ -106,14 +99,14 @@ module _ (count : ℕ) (cells run : List ℕ) (twice : ℕ) (laid : ParentsLaid 
           }
 
 -- a file of some bytes
-module _ (p old cells : List ℕ) (r : Reading) (whole : or_header Parents p ≡ p) (read : FileRead Parents p old cells r) where
-  pub parents-unread : (n : ℕ) (supply : List ℕ) {x : Refusal} → r ≡ NotRead x → ParentsChecked p n supply supply (NotRead x)
+module _ (p old cells : List ℕ) (r : Result ℕ Refusal) (whole : or_header Parents p ≡ p) (read : FileRead Parents p old cells r) where
+  pub parents-unread : (n : ℕ) (supply : List ℕ) {x : Refusal} → r ≡ Err x → ParentsChecked p n supply supply (Err x)
   unfolding alone_refusals
   parents-unread n supply {x} e =
       groups-refused _ (parents_of p) n supply x (first-of-here _ _ _ (rw whole (was-refused Parents p read.answers e)))
 
-  module _ (count : ℕ) (e : r ≡ RowsRead count) where
-    were-read : refusal Parents p ≡ none
+  module _ (count : ℕ) (e : r ≡ Ok count) where
+    were-read : refusal Parents p ≡ None
     were-read = (was_read Parents p read.answers e).0
 
     number : count ≡ length (parents_of p)
@@ -132,7 +125,7 @@ module _ (p old cells : List ℕ) (r : Reading) (whole : or_header Parents p ≡
         }
 
     pub parents-passed :
-        (n : ℕ) (supply new : List ℕ) (a : Reading) → RowsGrouped (parent_rows count cells) n supply new a → ParentsChecked p n supply new a
+        (n : ℕ) (supply new : List ℕ) (a : Result ℕ Refusal) → RowsGrouped (parent_rows count cells) n supply new a → ParentsChecked p n supply new a
     unfolding alone_refusals
     parents-passed n supply new a groups =
         let rest : first_of (alone_refusals Parents p) ≡ first_of (affiliate_refusals (parents_of p)) =

@@ -1,9 +1,10 @@
 -- Laws of the steps of the check: constraint and supply together, and schedules beside them, one for each way through the code.
 -- Assumes nothing.
+use Rattle.std.specs.Prelude.{Err, None, Ok, Option, Result, Some}
+use Rattle.checking.specs.declared.supply_file.Supplied.{Supplied}
 use Prim.Native.Nat.{ℕ, ◌*◌, ◌≤◌}
-use mathlib.Core.Path.{◌≡◌, refl, sym, ◌∙◌}
+use mathlib.Core.Path.{◌≡◌, refl, sym, ◌∙◌, ap}
 use mathlib.Core.List.{List, [], ◌∷◌, ◌++◌, append_assoc}
-use mathlib.Core.Option.{Option, none, some}
 use native.Mathlib.Omega.{arith}
 use lib.ListN.{length}
 use Rattle.base.specs.Search.{first_of}
@@ -13,8 +14,6 @@ use Rattle.tables.specs.promises.Laying.{room}
 use Rattle.tables.specs.Reading.{refusal}
 use Rattle.tables.specs.declared.constraint.ConstraintRow.{ConstraintRow}
 use Rattle.tables.specs.declared.files.File.TheVariants.{Constraint, Supply, Schedules}
-use Rattle.tables.specs.declared.files.Reading.{Reading}
-use Rattle.tables.specs.declared.files.Reading.TheVariants.{Rows as RowsRead, Refused as NotRead}
 use Rattle.tables.specs.declared.files.Refusal.{Refusal}
 use Rattle.tables.proofs.Accepted.{accepted}
 use Rattle.tables.specs.Refusals.{refused}
@@ -30,11 +29,6 @@ use Rattle.checking.specs.promises.Market.{MarketChecked}
 use Rattle.checking.specs.Files.{constraint_of, supply_of, schedules_of, curves_of, alone_refusals, market_refusals, schedules_refusals, beside_refusals}
 use Rattle.checking.specs.promises.Curves.{priced_rows, RowsHeld}
 use Rattle.checking.specs.promises.Rules.{priced_refusals, held_refusals}
-use Rattle.checking.specs.declared.constraint_file.ConstraintCheck.{ConstraintCheck}
-use Rattle.checking.specs.declared.constraint_file.ConstraintCheck.TheVariants.{Row, Refused as ConstraintRefused}
-use Rattle.checking.specs.declared.market.MarketCheck.TheVariants.{Passed, Refused}
-use Rattle.checking.specs.declared.supply_file.SupplyCheck.{SupplyCheck}
-use Rattle.checking.specs.declared.supply_file.SupplyCheck.TheVariants.{Rows as SupplyRowsRead, Refused as SupplyRefused}
 use Rattle.checking.proofs.FilesLaws.{schedules-count}
 use Rattle.base.proofs.FirstLaws.{first-of-part, first-of-rest}
 use Rattle.checking.proofs.KeptLaws.{schedules-kept}
@@ -42,38 +36,40 @@ use Rattle.checking.proofs.Rooms.{schedules-room}
 use Rattle.checking.proofs.RuleLaws.{some-none, rows-answered, refused-answered}
 
 -- what the readers' answers say of the refusal they go by
-pub row-answered : (o : Option Refusal) (c : List ℕ) {row : ConstraintRow} → constraint_unless o c ≡ Row row → (o ≡ none) × (row ≡ constraint_of c)
-row-answered none c e = (refl, cc)
-row-answered (some x) c e = let z : ◌≡◌ {A = ℕ} 0 1 = cc in absurd (omega arith)
+pub row-answered : (o : Option Refusal) (c : List ℕ) {row : ConstraintRow} → constraint_unless o c ≡ Ok row → (o ≡ None) × (row ≡ constraint_of c)
+row-answered None c e = (refl, cc)
+row-answered (Some x) c e = let z : ◌≡◌ {A = ℕ} 0 1 = cc in absurd (omega arith)
 
-pub constraint-answered : (o : Option Refusal) (c : List ℕ) {x : Refusal} → constraint_unless o c ≡ ConstraintRefused x → o ≡ some x
-constraint-answered none c e = let z : ◌≡◌ {A = ℕ} 0 1 = cc in absurd (omega arith)
-constraint-answered (some y) c e = cc
+pub constraint-answered : (o : Option Refusal) (c : List ℕ) {x : Refusal} → constraint_unless o c ≡ Err x → o ≡ Some x
+constraint-answered None c e = let z : ◌≡◌ {A = ℕ} 0 1 = cc in absurd (omega arith)
+constraint-answered (Some y) c e = cc
 
 pub counts-answered :
-    (o : Option Refusal) (s : List ℕ) {n k : ℕ} → supply_unless o s ≡ SupplyRowsRead n k →
-    (o ≡ none) × (n ≡ length (supply_of s)) × (k ≡ length (units (supply_of s)))
-counts-answered none s e = (refl, cc, cc)
-counts-answered (some x) s e = let z : ◌≡◌ {A = ℕ} 0 1 = cc in absurd (omega arith)
+    (o : Option Refusal) (s : List ℕ) {k : Supplied} → supply_unless o s ≡ Ok k →
+    (o ≡ None) × (k.rows ≡ length (supply_of s)) × (k.units ≡ length (units (supply_of s)))
+counts-answered None s {k} e =
+    let same : ◌≡◌ {A = Supplied} (record { rows = length (supply_of s); units = length (units (supply_of s)) }) k = cc in
+    (refl, sym (ap (λ (j : Supplied). j.rows) same), sym (ap (λ (j : Supplied). j.units) same))
+counts-answered (Some x) s e = let z : ◌≡◌ {A = ℕ} 0 1 = cc in absurd (omega arith)
 
-pub supply-answered : (o : Option Refusal) (s : List ℕ) {x : Refusal} → supply_unless o s ≡ SupplyRefused x → o ≡ some x
-supply-answered none s e = let z : ◌≡◌ {A = ℕ} 0 1 = cc in absurd (omega arith)
-supply-answered (some y) s e = cc
+pub supply-answered : (o : Option Refusal) (s : List ℕ) {x : Refusal} → supply_unless o s ≡ Err x → o ≡ Some x
+supply-answered None s e = let z : ◌≡◌ {A = ℕ} 0 1 = cc in absurd (omega arith)
+supply-answered (Some y) s e = cc
 
 -- the market
-module _ (c s cells us : List ℕ) {q : ConstraintCheck} (checked : q ≡ constraint_checked c) where
-  market-refused : (x : Refusal) → first_of (market_refusals c s) ≡ some x → MarketChecked c s cells us (Refused x)
+module _ (c s cells us : List ℕ) {q : Result ConstraintRow Refusal} (checked : q ≡ constraint_checked c) where
+  market-refused : (x : Refusal) → first_of (market_refusals c s) ≡ Some x → MarketChecked c s cells us (Err x)
   market-refused x e = record { answers = rw e; kept = λ z. some-none (sym e ∙ z) }
 
-  pub market-unread : {x : Refusal} → q ≡ ConstraintRefused x → MarketChecked c s cells us (Refused x)
+  pub market-unread : {x : Refusal} → q ≡ Err x → MarketChecked c s cells us (Err x)
   unfolding constraint_checked market_refusals
   market-unread {x} e =
       market-refused x
       (first-of-part (alone_refusals Constraint c) (alone_refusals Supply s) x
       (constraint-answered (first_of (alone_refusals Constraint c)) c (sym checked ∙ e)))
 
-  module _ {row : ConstraintRow} (e : q ≡ Row row) {p : SupplyCheck} (supplied : SupplyChecked s cells us p) where
-    row_told : (first_of (alone_refusals Constraint c) ≡ none) × (row ≡ constraint_of c)
+  module _ {row : ConstraintRow} (e : q ≡ Ok row) {p : Result Supplied Refusal} (supplied : SupplyChecked s cells us p) where
+    row_told : (first_of (alone_refusals Constraint c) ≡ None) × (row ≡ constraint_of c)
     unfolding constraint_checked
     row_told = row-answered (first_of (alone_refusals Constraint c)) c (sym checked ∙ e)
 
@@ -81,13 +77,13 @@ module _ (c s cells us : List ℕ) {q : ConstraintCheck} (checked : q ≡ constr
     unfolding market_refusals
     supply-first = first-of-rest (alone_refusals Constraint c) (alone_refusals Supply s) row_told.0
 
-    pub market-unsupplied : {x : Refusal} → p ≡ SupplyRefused x → MarketChecked c s cells us (Refused x)
+    pub market-unsupplied : {x : Refusal} → p ≡ Err x → MarketChecked c s cells us (Err x)
     market-unsupplied {x} f =
         market-refused x (supply-first ∙ supply-answered (first_of (alone_refusals Supply s)) s (sym supplied.answers ∙ f))
 
     pub market-passed :
-        {n k : ℕ} → p ≡ SupplyRowsRead n k →
-        MarketChecked c s cells us (Passed (record { constraint = row; rows = n; units = k }))
+        {k : Supplied} → p ≡ Ok k →
+        MarketChecked c s cells us (Ok (record { constraint = row; rows = k.rows; units = k.units }))
     market-passed f =
         let (passed, rows, count) = counts-answered (first_of (alone_refusals Supply s)) s (sym supplied.answers ∙ f) in
         record {
@@ -96,23 +92,23 @@ module _ (c s cells us : List ℕ) {q : ConstraintCheck} (checked : q ≡ constr
         }
 
 -- schedules beside a market
-module _ (h cells links : List ℕ) {q : Reading} (read : SchedulesChecked (alone_refusals Schedules h) (schedules_of h) cells links q) where
+module _ (h cells links : List ℕ) {q : Result ℕ Refusal} (read : SchedulesChecked (alone_refusals Schedules h) (schedules_of h) cells links q) where
   module _ (k : List ℕ) (w : Option Refusal) (hour : ℕ) (us : List ℕ) where
     beside-parts : beside_refusals (w ∷ []) hour us h k ≡ alone_refusals Schedules h ++ held_refusals w hour us (schedules_of h) k
     unfolding beside_refusals schedules_refusals held_refusals priced_refusals
     beside-parts = append_assoc (alone_refusals Schedules h) _ _
 
-    pub beside-unread : {x : Refusal} → q ≡ NotRead x → SchedulesChecked (beside_refusals (w ∷ []) hour us h k) (priced_rows h k) cells links (NotRead x)
+    pub beside-unread : {x : Refusal} → q ≡ Err x → SchedulesChecked (beside_refusals (w ∷ []) hour us h k) (priced_rows h k) cells links (Err x)
     beside-unread {x} e =
         let alone = refused-answered (first_of (alone_refusals Schedules h)) _ (sym read.answers ∙ e) in
-        let first : first_of (beside_refusals (w ∷ []) hour us h k) ≡ some x = rw beside-parts (first-of-part (alone_refusals Schedules h) _ x alone) in
+        let first : first_of (beside_refusals (w ∷ []) hour us h k) ≡ Some x = rw beside-parts (first-of-part (alone_refusals Schedules h) _ x alone) in
         record { answers = rw first; kept = λ z. some-none (sym first ∙ z) }
 
-  module _ (n : ℕ) (e : q ≡ RowsRead n) where
-    passed : (first_of (alone_refusals Schedules h) ≡ none) × (n ≡ length (schedules_of h))
+  module _ (n : ℕ) (e : q ≡ Ok n) where
+    passed : (first_of (alone_refusals Schedules h) ≡ None) × (n ≡ length (schedules_of h))
     passed = rows-answered (first_of (alone_refusals Schedules h)) (length (schedules_of h)) (sym read.answers ∙ e)
 
-    alone-kept : (refusal Schedules h ≡ none) × (schedules_at_odds (schedules_of h) ≡ none)
+    alone-kept : (refusal Schedules h ≡ None) × (schedules_at_odds (schedules_of h) ≡ None)
     unfolding alone_refusals
     alone-kept =
         let (read_whole, later) = first-of-none (refusal Schedules h) _ passed.0 in
@@ -136,7 +132,7 @@ module _ (h cells links : List ℕ) {q : Reading} (read : SchedulesChecked (alon
         }
 
     pub beside-passed :
-        (k : List ℕ) (w : Option Refusal) (hour : ℕ) (us new : List ℕ) (a : Reading) → RowsHeld w hour us k n cells new a →
+        (k : List ℕ) (w : Option Refusal) (hour : ℕ) (us new : List ℕ) (a : Result ℕ Refusal) → RowsHeld w hour us k n cells new a →
         SchedulesChecked (beside_refusals (w ∷ []) hour us h k) (priced_rows h k) new links a
     beside-passed k w hour us new a held =
         let first : first_of (beside_refusals (w ∷ []) hour us h k) ≡ first_of (held_refusals w hour us (schedule_rows n cells) k) =

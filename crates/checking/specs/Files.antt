@@ -1,9 +1,7 @@
 -- The files of a study, their rows, and their refusals as one list in document 01's order: "file by file 1, 2, 4, 3, 5, 6, 7,
 -- each over the whole file; then 8, 9", where the fourth file of document 02 has 1, 2, 4, 3, 32, 33 and 34, and the fifth 1, 2, 4, 3,
 -- 35 and 36. Assumes nothing.
-use Rattle.std.specs.Prelude.{ℕ, List, [], ◌∷◌, ◌++◌, map, get_or}
-use Rattle.std.proofs.Math.Option
-use Rattle.std.proofs.Math.Option.{Option}
+use Rattle.std.specs.Prelude.{ℕ, List, [], ◌∷◌, ◌++◌, map, get_or, Option, option_map}
 use Rattle.base.specs.Search.{first_of}
 use Rattle.tables.specs.Rows.{SupplyRow, ScheduleRow, PointRow, ParentRow, constraint_row, supply_row, schedule_row, point_row, parent_row}
 use Rattle.tables.specs.declared.constraint.ConstraintRow.{ConstraintRow}
@@ -68,26 +66,26 @@ groups_of f = grouped (parents_of f.parents) (supply_of f.supply)
 -- the refusals between points of curves and schedule rows
 unfoldable pub point_refusals : List ScheduleRow → List PointRow → List (Option Refusal)
 point_refusals rs vs =
-    Option.map (refused 32 Curves) (stray_point rs vs)
-    ∷ Option.map (refused 33 Curves) (disordered vs)
-    ∷ Option.map (refused 34 Curves) (ends_low rs vs)
+    option_map (refused 32 Curves) (stray_point rs vs)
+    ∷ option_map (refused 33 Curves) (disordered vs)
+    ∷ option_map (refused 34 Curves) (ends_low rs vs)
     ∷ []
 
 -- the refusals between the rows of parents
 unfoldable pub affiliate_refusals : List ParentRow → List (Option Refusal)
 affiliate_refusals ps =
-    Option.map (refused 35 Parents) (given_twice ps) ∷ Option.map (refused 36 Parents) (ringed ps) ∷ []
+    option_map (refused 35 Parents) (given_twice ps) ∷ option_map (refused 36 Parents) (ringed ps) ∷ []
 
 -- the refusals of a file alone: 1, 2, 4 and 3 by reading it, then those between its rows; points go by the rows of schedules
 unfoldable pub alone_refusals : File → List ℕ → List (Option Refusal)
 alone_refusals Constraint c = refusal Constraint c ∷ []
 alone_refusals Supply s =
     refusal Supply s
-    ∷ Option.map (refused 5 Supply) (over_limit (supply_of s))
-    ∷ Option.map (refused 6 Supply) (supply_at_odds (supply_of s))
+    ∷ option_map (refused 5 Supply) (over_limit (supply_of s))
+    ∷ option_map (refused 6 Supply) (supply_at_odds (supply_of s))
     ∷ []
 alone_refusals Schedules s =
-    refusal Schedules s ∷ Option.map (refused 6 Schedules) (schedules_at_odds (schedules_of s)) ∷ []
+    refusal Schedules s ∷ option_map (refused 6 Schedules) (schedules_at_odds (schedules_of s)) ∷ []
 alone_refusals Curves k = refusal Curves (or_header Curves k) ∷ []
 alone_refusals Parents p = refusal Parents (or_header Parents p) ∷ affiliate_refusals (parents_of p)
 
@@ -98,7 +96,7 @@ market_refusals c s = alone_refusals Constraint c ++ alone_refusals Supply s
 -- schedules beside the units of supply
 unfoldable pub schedules_refusals : List ℕ → List ℕ → List (Option Refusal)
 schedules_refusals us s =
-    alone_refusals Schedules s ++ (Option.map (refused 7 Schedules) (not_in_supply us (schedules_of s)) ∷ [])
+    alone_refusals Schedules s ++ (option_map (refused 7 Schedules) (not_in_supply us (schedules_of s)) ∷ [])
 
 -- curves beside the rows of schedules
 unfoldable pub curves_refusals : List ScheduleRow → List ℕ → List (Option Refusal)
@@ -107,7 +105,7 @@ curves_refusals rs k = alone_refusals Curves k ++ point_refusals rs (curves_of k
 -- "then 8, 9": the units of supply that lack schedule rows, for a study hour
 unfoldable pub units_refusals : ℕ → List ℕ → List ScheduleRow → List (Option Refusal)
 units_refusals hour us rs =
-    Option.map (refused 8 Schedules) (unscheduled us rs) ∷ Option.map (refused 9 Schedules) (lacking hour us rs) ∷ []
+    option_map (refused 8 Schedules) (unscheduled us rs) ∷ option_map (refused 9 Schedules) (lacking hour us rs) ∷ []
 
 -- what comes behind a market with this hour and these units: schedules, their curves, other files' refusals, and 8, 9
 unfoldable pub beside_refusals : List (Option Refusal) → ℕ → List ℕ → List ℕ → List ℕ → List (Option Refusal)

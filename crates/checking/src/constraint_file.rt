@@ -3,7 +3,7 @@
 ghost use Rattle.std.specs.Prelude.{◌≡◌};
 ghost use Rattle.checking.specs.promises.Alone.{constraint_checked};
 
-use tables::{ConstraintRow, File, Reading, Refusal};
+use tables::{ConstraintRow, File, Refusal};
 
 // The columns of the row.
 const WIDTH: usize = 3;
@@ -14,23 +14,14 @@ const RELIEF: usize = 1;
 
 const CUTOFF: usize = 2;
 
-#[derive(Clone, Copy)]
-pub enum ConstraintCheck {
-    Row(ConstraintRow),
-    Refused(Refusal),
-}
-
-pub fn read_constraint(bytes: &[u8]) -> ConstraintCheck
+pub fn read_constraint(bytes: &[u8]) -> Result<ConstraintRow, Refusal>
     ensures { result ≡ constraint_checked bytes.now }
 {
     let mut cells = [0u64; WIDTH];
-    let reading = onepass::read(File::Constraint, bytes, &mut cells);
-    match reading {
-        Reading::Refused(refusal) => ConstraintCheck::Refused(refusal),
-        Reading::Rows(_) => ConstraintCheck::Row(ConstraintRow {
-            hour: cells[HOUR],
-            relief: cells[RELIEF],
-            cutoff: cells[CUTOFF],
-        }),
-    }
+    onepass::read(File::Constraint, bytes, &mut cells)?;
+    Ok(ConstraintRow {
+        hour: cells[HOUR],
+        relief: cells[RELIEF],
+        cutoff: cells[CUTOFF],
+    })
 }

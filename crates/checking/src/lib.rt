@@ -13,9 +13,9 @@ mod rules;
 mod schedules_file;
 mod supply_file;
 
-pub use constraint_file::{ConstraintCheck, read_constraint};
+pub use constraint_file::read_constraint;
 pub use lengths::{SCHEDULE_CELLS, SUPPLY_CELLS, UNITS_LENGTH};
-pub use market::{Market, MarketCheck, check_market};
+pub use market::{Market, check_market};
 pub use parents_file::check_parents;
 pub use schedules_file::{check_schedules, read_schedules};
-pub use supply_file::{SupplyCheck, read_supply};
+pub use supply_file::{Supplied, read_supply};

@@ -5,8 +5,8 @@ ghost use Rattle.tables.specs.declared.files.File.TheVariants.{Supply};
 ghost use Rattle.supply.specs.Supply.{most_units};
 ghost use Rattle.checking.specs.promises.Market.{MarketChecked};
 
-use crate::constraint_file::{ConstraintCheck, read_constraint};
-use crate::supply_file::{SupplyCheck, read_supply};
+use crate::constraint_file::read_constraint;
+use crate::supply_file::read_supply;
 use tables::{ConstraintRow, Refusal};
 
 // The constraint's row, and how many rows and units supply has.
@@ -17,36 +17,22 @@ pub struct Market {
     pub units: usize,
 }
 
-#[derive(Clone, Copy)]
-pub enum MarketCheck {
-    Passed(Market),
-    Refused(Refusal),
-}
-
 // Files constraint and supply: the rows of supply, and its units by rising number, in the lent runs.
 pub fn check_market(
     constraint: &[u8],
     supply: &[u8],
     cells: &mut [u64],
     units: &mut [u64],
-) -> MarketCheck
+) -> Result<Market, Refusal>
     requires room_in_bounds { room Supply ≤ length cells.old }
     requires most_units_in_bounds { most_units < length units.old }
     ensures { MarketChecked constraint.now supply.now cells.new units.new result }
 {
-    let check = read_constraint(constraint);
-    match check {
-        ConstraintCheck::Refused(refusal) => MarketCheck::Refused(refusal),
-        ConstraintCheck::Row(row) => {
-            let supplied = read_supply(supply, cells, units);
-            match supplied {
-                SupplyCheck::Refused(refusal) => MarketCheck::Refused(refusal),
-                SupplyCheck::Rows(rows, count) => MarketCheck::Passed(Market {
-                    constraint: row,
-                    rows: rows,
-                    units: count,
-                }),
-            }
-        }
-    }
+    let row = read_constraint(constraint)?;
+    let supplied = read_supply(supply, cells, units)?;
+    Ok(Market {
+        constraint: row,
+        rows: supplied.rows,
+        units: supplied.units,
+    })
 }

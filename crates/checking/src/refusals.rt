@@ -1,4 +1,4 @@
-// The refusals that go by rows, by their numbers, and a refusal of a file.
+// The refusals that go by rows, by their numbers, as `Refusal` of tables has them, and a refusal of a file.
 ghost use Rattle.std.specs.Prelude.{◌≡◌};
 ghost use Rattle.tables.specs.Refusals.{refused as reading_refused};
 

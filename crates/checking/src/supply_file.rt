@@ -8,39 +8,35 @@ ghost use Rattle.checking.specs.promises.Alone.{SupplyChecked};
 
 use crate::refusals::{AT_ODDS, OVER_LIMIT, refused};
 use supply::{over_limit, supply_at_odds};
-use tables::{File, Reading, Refusal};
+use tables::{File, Refusal};
 
 // One more than the most suppliers that supply may have.
 const SUPPLIERS: usize = 33;
 
-// What reading supply gives: how many rows and how many units it has, or why it is refused.
+// How many rows and how many units supply has.
 #[derive(Clone, Copy)]
-pub enum SupplyCheck {
-    Rows(usize, usize),
-    Refused(Refusal),
+pub struct Supplied {
+    pub rows: usize,
+    pub units: usize,
 }
 
 // Reads supply, and holds its rows to each other. Its units are listed by rising number.
-pub fn read_supply(bytes: &[u8], cells: &mut [u64], units: &mut [u64]) -> SupplyCheck
+pub fn read_supply(bytes: &[u8], cells: &mut [u64], units: &mut [u64]) -> Result<Supplied, Refusal>
     requires room_in_bounds { room Supply ≤ length cells.old }
     requires most_units_in_bounds { most_units < length units.old }
     ensures { SupplyChecked bytes.now cells.new units.new result }
 {
-    let reading = onepass::read(File::Supply, bytes, cells);
-    match reading {
-        Reading::Refused(refusal) => SupplyCheck::Refused(refusal),
-        Reading::Rows(n) => {
-            let mut suppliers = [0u64; SUPPLIERS];
-            let counts = over_limit(cells, n, units, &mut suppliers);
-            let over = counts.place;
-            let odd = supply_at_odds(cells, n);
-            if over != 0 {
-                return SupplyCheck::Refused(refused(OVER_LIMIT, File::Supply, over as u64));
-            }
-            if odd != 0 {
-                return SupplyCheck::Refused(refused(AT_ODDS, File::Supply, odd as u64));
-            }
-            SupplyCheck::Rows(n, counts.units)
-        }
+    let n = onepass::read(File::Supply, bytes, cells)?;
+    let mut suppliers = [0u64; SUPPLIERS];
+    let counts = over_limit(cells, n, units, &mut suppliers);
+    if let Some(over) = counts.place {
+        return Err(refused(OVER_LIMIT, File::Supply, over as u64));
     }
+    if let Some(odd) = supply_at_odds(cells, n) {
+        return Err(refused(AT_ODDS, File::Supply, odd as u64));
+    }
+    Ok(Supplied {
+        rows: n,
+        units: counts.units,
+    })
 }

@@ -1,10 +1,10 @@
 -- Laws of a unit's rows among all: whether one is of a schedule of some kinds, and what is kept of them, row by row. Assumes
 -- nothing.
+use Rattle.std.specs.Prelude.{None, Option}
 use Prim.Native.Nat.{ℕ, ◌+◌, ◌≤◌, ◌<◌}
 use mathlib.Core.Path.{◌≡◌, refl, sym, ◌∙◌}
 use mathlib.Core.Bool.{Bool, true, false, cond, ◌&&◌, ◌||◌}
 use mathlib.Core.List.{List, [], ◌∷◌, map, foldr}
-use mathlib.Core.Option.{Option}
 use native.Mathlib.Omega.{arith}
 use lib.Dec.{eqb}
 use lib.ListN.{get_or}
@@ -23,8 +23,6 @@ use Rattle.schedules.specs.Schedules.{own}
 use Rattle.schedules.proofs.SearchLaws.{rows-any, rows-down, along-unit}
 use Rattle.choice.specs.declared.kinds.Kinds.{Kinds}
 use Rattle.choice.specs.declared.choices.Choice.{Choice}
-use Rattle.choice.specs.declared.choices.Chosen.{Chosen}
-use Rattle.choice.specs.declared.choices.Chosen.TheVariants.{Nothing}
 use Rattle.choice.specs.Schedules.{at_hour, schedules, admits, of_kinds, has_any}
 use Rattle.choice.specs.Choosing.{shown, kept, kept_all}
 use Rattle.choice.specs.promises.Steps.{own_offers, weighed, offers}
@@ -47,7 +45,7 @@ module _ (u h : ℕ) (kinds : Kinds) where
     kept-own :
         (rows : List ScheduleRow) →
         kept_all (map f (those (of_kinds kinds) (schedules h (own u rows))))
-        ≡ foldr (λ (row : ScheduleRow) (b : Chosen). weighed u h kinds f b row) Nothing rows
+        ≡ foldr (λ (row : ScheduleRow) (b : Option Choice). weighed u h kinds f b row) None rows
     unfolding kept_all schedules own those offers own_offers weighed
     kept-own [] = refl
     kept-own (row ∷ rows) = go (eqb row.unit u) (at_hour h row) (of_kinds kinds row) refl refl (kept-own rows)
@@ -55,10 +53,10 @@ module _ (u h : ℕ) (kinds : Kinds) where
         go :
             (t v w : Bool) → at_hour h row ≡ v → of_kinds kinds row ≡ w →
             kept_all (map f (those (of_kinds kinds) (schedules h (own u rows))))
-            ≡ foldr (λ (r : ScheduleRow) (b : Chosen). weighed u h kinds f b r) Nothing rows →
+            ≡ foldr (λ (r : ScheduleRow) (b : Option Choice). weighed u h kinds f b r) None rows →
             kept_all (map f (those (of_kinds kinds) (schedules h (cond t (row ∷ own u rows) (own u rows)))))
-            ≡ cond (t && (v && w)) (kept (foldr (λ (r : ScheduleRow) (b : Chosen). weighed u h kinds f b r) Nothing rows) (f row))
-            (foldr (λ (r : ScheduleRow) (b : Chosen). weighed u h kinds f b r) Nothing rows)
+            ≡ cond (t && (v && w)) (kept (foldr (λ (r : ScheduleRow) (b : Option Choice). weighed u h kinds f b r) None rows) (f row))
+            (foldr (λ (r : ScheduleRow) (b : Option Choice). weighed u h kinds f b r) None rows)
         go true true true e k more = simp (e, k) (rw more)
         go true true false e k more = simp (e, k) more
         go true false w e k more = simp e more
@@ -112,19 +110,19 @@ module _ (n : ℕ) (cells : List ℕ) (u h : ℕ) (kinds : Kinds) where
     shown_of = shown day h (own u (schedule_rows n cells))
 
     -- what is kept of an earlier choice and row j
-    abbrev pub weighed_at : Chosen → ℕ → Chosen
+    abbrev pub weighed_at : Option Choice → ℕ → Option Choice
     weighed_at b j = weighed u h kinds shown_of b (schedule_at cells j)
 
     pub best-over :
-        (best : Chosen) → best ≡ down weighed_at Nothing n →
+        (best : Option Choice) → best ≡ down weighed_at None n →
         best ≡ kept_all (map shown_of (those (of_kinds kinds) (schedules h (own u (schedule_rows n cells)))))
     best-over best e =
-        e ∙ sym (kept-own u h kinds shown_of (schedule_rows n cells) ∙ rows-down cells (weighed u h kinds shown_of) Nothing n)
+        e ∙ sym (kept-own u h kinds shown_of (schedule_rows n cells) ∙ rows-down cells (weighed u h kinds shown_of) None n)
 
     -- row j by whether it is offered
-    module _ (b : Chosen) (j : ℕ) where
+    module _ (b : Option Choice) (j : ℕ) where
       pub weighed-own :
-          {t : Bool} {c : Choice} {next : Chosen} → t ≡ offers_at j → t ≡ true →
+          {t : Bool} {c : Choice} {next : Option Choice} → t ≡ offers_at j → t ≡ true →
           c ≡ shown day h (own (schedule_at cells j).unit (schedule_rows n cells)) (schedule_at cells j) → next ≡ kept b c →
           next ≡ weighed_at b j
       unfolding weighed
@@ -138,7 +136,7 @@ module _ (n : ℕ) (cells : List ℕ) (u h : ℕ) (kinds : Kinds) where
 
     pub best-walk :
         (x : ℕ) (links : List ℕ) → RowsLinked cells n links → x ≡ by_unit u → x < unit_keys →
-        Walk weighed_at Nothing n links Nothing (get_or links (most_linked + x) 0)
+        Walk weighed_at None n links None (get_or links (most_linked + x) 0)
     best-walk x links l is one =
-        walk-key weighed_at Nothing x (rows-by-unit l) one
+        walk-key weighed_at None x (rows-by-unit l) one
         (λ b j other. sym (weighed-not b j (offers-unit u h kinds (schedule_at cells j) (λ e. other (rw (is, e)))) refl))

@@ -1,18 +1,16 @@
 -- The choice is just what demand 3 asks, both ways, and there is one exactly when some schedule is eligible. Assumes nothing.
+use Rattle.std.specs.Prelude.{Option, Some}
 use Prim.Native.Nat.{ℕ, ◌≤◌}
 use mathlib.Core.Path.{◌≡◌, refl, sym, ◌∙◌, ap, subst}
 use mathlib.Core.Logic.{◌↔◌, ⊎_elim}
 use mathlib.Core.Bool.{Bool}
 use mathlib.Core.List.Memᴰ.{not-nil}
 use mathlib.Core.List.{List, Memᴰ as Among}
-use mathlib.Core.Option.{Option}
 use native.Mathlib.Omega.{arith}
 use Rattle.base.proofs.Tests.{eq-or-ne}
 use Rattle.tables.specs.Rows.{ScheduleRow}
 use Rattle.tables.specs.declared.files.Kind.{Kind}
 use Rattle.choice.specs.declared.choices.Choice.{Choice}
-use Rattle.choice.specs.declared.choices.Chosen.{Chosen}
-use Rattle.choice.specs.declared.choices.Chosen.TheVariants.{Schedule}
 use Rattle.choice.specs.Cost.{cost}
 use Rattle.choice.specs.Schedules.{schedules, is_running, eligible_schedule}
 use Rattle.choice.specs.Choosing.{shown, candidates, choice}
@@ -41,7 +39,7 @@ module _ (day : Option Kind) (exposed : Bool) (h : ℕ) (rows : List ScheduleRow
   unfolding choice
   chosen = least_kept (candidates day exposed h rows)
 
-  right : {o : Chosen} → Least (candidates day exposed h rows) o → (c : Choice) → o ≡ Schedule c → RightChoice day exposed h rows c
+  right : {o : Option Choice} → Least (candidates day exposed h rows) o → (c : Choice) → o ≡ Some c → RightChoice day exposed h rows c
   unfolding shown
   right (no-candidate _) c e = let z : ◌≡◌ {A = ℕ} 0 1 = cc in absurd (omega arith)
   right (least-one {c = d} m all) c e =
@@ -77,25 +75,25 @@ module _ (day : Option Kind) (exposed : Bool) (h : ℕ) (rows : List ScheduleRow
   is-candidate r = rw r.shows (candidate r.row r.is-eligible)
 
   kept-right :
-      OneRowEach h rows → {o : Chosen} → Least (candidates day exposed h rows) o → (c : Choice) →
+      OneRowEach h rows → {o : Option Choice} → Least (candidates day exposed h rows) o → (c : Choice) →
       RightChoice day exposed h rows c →
-      o ≡ Schedule c
+      o ≡ Some c
   kept-right distinct (no-candidate e) c r = absurd (not-nil (rw e at (is-candidate r)))
-  kept-right distinct (least-one m all) c r = ap Schedule (only distinct r m (all c (is-candidate r)))
+  kept-right distinct (least-one m all) c r = ap Some (only distinct r m (all c (is-candidate r)))
 
   pub choice-right :
-      OneRowEach h rows → (c : Choice) → (choice day exposed h rows ≡ Schedule c) ↔ RightChoice day exposed h rows c
+      OneRowEach h rows → (c : Choice) → (choice day exposed h rows ≡ Some c) ↔ RightChoice day exposed h rows c
   choice-right distinct c = (right chosen c, kept-right distinct chosen c)
 
   -- there is a choice exactly when some schedule is eligible
   found :
-      {o : Chosen} → Least (candidates day exposed h rows) o → (row : ScheduleRow) → Eligible day exposed h rows row →
-      (c : Choice) × (o ≡ Schedule c)
+      {o : Option Choice} → Least (candidates day exposed h rows) o → (row : ScheduleRow) → Eligible day exposed h rows row →
+      (c : Choice) × (o ≡ Some c)
   found (no-candidate e) row el = absurd (not-nil (rw e at (candidate row el)))
   found (least-one {c = d} m all) row el = (d, refl)
 
   pub choice-exists :
-      ((c : Choice) × (choice day exposed h rows ≡ Schedule c)) ↔ ((row : ScheduleRow) × Eligible day exposed h rows row)
+      ((c : Choice) × (choice day exposed h rows ≡ Some c)) ↔ ((row : ScheduleRow) × Eligible day exposed h rows row)
   choice-exists = (
     λ x.
         let r = right chosen x.0 x.1 in

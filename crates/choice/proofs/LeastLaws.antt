@@ -1,4 +1,5 @@
 -- What is kept of some candidates, one after the other, is the least of them. Assumes nothing.
+use Rattle.std.specs.Prelude.{None, Option, Some}
 use Prim.Native.Nat.{◌≤◌, ◌<◌}
 use mathlib.Core.Path.{◌≡◌, refl}
 use mathlib.Core.Logic.{⊎_elim}
@@ -12,8 +13,6 @@ use native.Mathlib.Omega.{arith}
 use lib.Dec.{ltb, eqb}
 use borrow.Author.Tests.{ltb-true, ltb-false, eqb-true, eqb-false, lt-ltb, le-ltb, eq-eqb, ne_eqb}
 use Rattle.choice.specs.declared.choices.Choice.{Choice}
-use Rattle.choice.specs.declared.choices.Chosen.{Chosen}
-use Rattle.choice.specs.declared.choices.Chosen.TheVariants.{Schedule, Nothing}
 use Rattle.choice.specs.Choosing.{better, kept, kept_all}
 
 -- a costs no more than b, and has no larger number where they cost the same
@@ -56,17 +55,17 @@ better-cases a b Q is isn't =
         isn't (record { costs = ltb-false _ _ e; number = λ h. absurd (eqb-false _ _ f h) })
 
 -- nothing is kept of no candidates, and else the least
-pub data Least (cs : List Choice) : Chosen → Type 0 where
-  no-candidate : cs ≡ [] → Least cs Nothing
-  least-one : {c : Choice} → Among c cs → ((o : Choice) → Among o cs → NoWorse c o) → Least cs (Schedule c)
+pub data Least (cs : List Choice) : Option Choice → Type 0 where
+  no-candidate : cs ≡ [] → Least cs None
+  least-one : {c : Choice} → Among c cs → ((o : Choice) → Among o cs → NoWorse c o) → Least cs (Some c)
 
 -- one candidate more
-least_more : {cs : List Choice} (d : Choice) {b : Chosen} → Least cs b → Least (d ∷ cs) (kept b d)
+least_more : {cs : List Choice} (d : Choice) {b : Option Choice} → Least cs b → Least (d ∷ cs) (kept b d)
 unfolding kept
 least_more d (no-candidate e) =
     least-one (first refl) (λ o m. ⊎_elim (λ f. rw f (self d)) (λ n. absurd (not-nil (rw e at n))) (among_cases m))
 least_more {cs} d (least-one {c = c} m all) =
-    better-cases d c (λ (t : Bool). Least (d ∷ cs) (cond t (Schedule d) (Schedule c)))
+    better-cases d c (λ (t : Bool). Least (d ∷ cs) (cond t (Some d) (Some c)))
     (λ n. least-one (first refl) (λ o k. ⊎_elim (λ f. rw f (self d)) (λ l. chained n (all o l)) (among_cases k)))
     (λ n. least-one (later m) (λ o k. ⊎_elim (λ f. rw f n) (all o) (among_cases k)))
 

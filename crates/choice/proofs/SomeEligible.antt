@@ -1,5 +1,6 @@
 -- When some schedule is eligible: always where the unit has a schedule, and a C schedule if it runs on cost, which is what
 -- refusal 21 is for. Assumes nothing.
+use Rattle.std.specs.Prelude.{Option}
 use Prim.Native.Nat.{ℕ}
 use mathlib.Core.Path.{◌≡◌, refl, sym, ◌∙◌, ap}
 use mathlib.Core.Logic.{◌↔◌}
@@ -7,7 +8,6 @@ use mathlib.Core.Bool.{Bool, true, false, ◌||◌, or-true}
 use mathlib.Core.List.Memᴰ.{head as first}
 use mathlib.Core.List.Memᴰ.{tail as later}
 use mathlib.Core.List.{List, [], ◌∷◌, Memᴰ as Among}
-use mathlib.Core.Option.{Option}
 use Rattle.base.proofs.Tests.{false-true, or_fst, or_snd}
 use Rattle.tables.specs.Rows.{ScheduleRow, kind_of}
 use Rattle.tables.specs.declared.files.Kind.{Kind}

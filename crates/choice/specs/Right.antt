@@ -1,8 +1,7 @@
 -- Demand 3 on a unit's schedule, number, kind and cost: the schedule is an eligible one of the unit, every other eligible one
 -- costs at least as much, and one that costs the same has a larger number. Assumes nothing.
-use Rattle.std.specs.Prelude.{ℕ, ◌≤◌, ◌<◌, ◌≡◌, ◌≢◌, Bool, true}
+use Rattle.std.specs.Prelude.{ℕ, ◌≤◌, ◌<◌, ◌≡◌, ◌≢◌, Bool, true, Option}
 use mathlib.Core.List.{List, Memᴰ as Among}
-use Rattle.std.proofs.Math.Option.{Option}
 use Rattle.tables.specs.Rows.{ScheduleRow}
 use Rattle.tables.specs.declared.files.Kind.{Kind}
 use Rattle.choice.specs.declared.choices.Choice.{Choice}

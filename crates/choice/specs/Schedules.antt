@@ -1,7 +1,6 @@
 -- Document 01, "Choice of schedule": a unit's schedules and which of them are eligible. The day says on which kind the unit
 -- runs, or none where it doesn't run. Assumes nothing; that every schedule has a row for the study hour is refusal 9.
-use Rattle.std.specs.Prelude.{ℕ, Bool, true, false, cond, ◌||◌, List, [], ◌∷◌, eqb}
-use Rattle.std.proofs.Math.Option.{Option, none, some}
+use Rattle.std.specs.Prelude.{ℕ, Bool, true, false, cond, ◌||◌, List, [], ◌∷◌, eqb, None, Option, Some}
 use Rattle.base.specs.Search.{those}
 use Rattle.tables.specs.Rows.{ScheduleRow, kind_of}
 use Rattle.tables.specs.declared.files.Kind.{Kind}
@@ -17,13 +16,13 @@ unfoldable pub schedules : ℕ → List ScheduleRow → List ScheduleRow
 schedules h rows = those (at_hour h) rows
 
 abbrev pub is_running : Option Kind → Bool
-is_running none = false
-is_running (some k) = true
+is_running None = false
+is_running (Some k) = true
 
 abbrev pub on_cost : Option Kind → Bool
-on_cost none = false
-on_cost (some M) = false
-on_cost (some C) = true
+on_cost None = false
+on_cost (Some M) = false
+on_cost (Some C) = true
 
 abbrev pub admits : Kinds → Kind → Bool
 admits All k = true

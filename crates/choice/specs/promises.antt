@@ -1,4 +1,3 @@
-pub mod Kinds
 pub mod OneRow
 pub mod Ranges
 pub mod Steps

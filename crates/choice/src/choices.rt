@@ -12,24 +12,17 @@ pub struct Choice {
     pub cost: u64,
 }
 
-// The schedule chosen, or nothing where none is eligible.
-#[derive(Clone, Copy)]
-pub enum Chosen {
-    Schedule(Choice),
-    Nothing,
-}
-
 // The better of an earlier choice and one schedule more.
-pub fn kept(best: Chosen, next: Choice) -> Chosen
+pub fn kept(best: Option<Choice>, next: Choice) -> Option<Choice>
     ensures { result ≡ choosing_kept best next }
 {
     match best {
-        Chosen::Nothing => Chosen::Schedule(next),
-        Chosen::Schedule(earlier) => {
+        None => Some(next),
+        Some(earlier) => {
             if better(next, earlier) {
-                Chosen::Schedule(next)
+                Some(next)
             } else {
-                Chosen::Schedule(earlier)
+                Some(earlier)
             }
         }
     }

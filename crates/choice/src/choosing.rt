@@ -8,17 +8,17 @@ ghost use Rattle.choice.specs.promises.Ranges.{ScheduleRowAt, ScheduleCells};
 ghost use Rattle.choice.specs.promises.Steps.{own_offers};
 ghost use Rattle.choice.specs.Schedules.{schedules, has_any};
 ghost use Rattle.choice.specs.Choosing.{shown as choosing_shown, choice};
-ghost use Rattle.choice.specs.promises.Kinds.{kind_in};
 ghost use Rattle.tables.specs.promises.FlatRows.{schedule_rows};
 
-use crate::choices::{Choice, Chosen, kept};
+use crate::choices::{Choice, kept};
 use crate::costs::cost;
-use crate::kinds::{DayKind, Kinds, admits, eligible_kinds, running};
+use crate::kinds::{Kinds, admits, eligible_kinds};
 use crate::rows::kind;
 use cells::schedule::{HOUR, SCHEDULE, UNIT, cell};
 use links::{ROWS, link_at, unit_key};
+use tables::Kind;
 
-// The schedule chosen for a unit, of the first `n` rows.
+// The schedule chosen for a unit, of the first `n` rows; nothing where none is eligible.
 pub fn choose(
     cells: &[u64],
     n: usize,
@@ -26,18 +26,18 @@ pub fn choose(
     unit: u64,
     hour: u64,
     exposed: bool,
-    day: DayKind,
-) -> Chosen
+    day: Option<Kind>,
+) -> Option<Choice>
     requires schedule_cells { ScheduleCells n cells.now }
     requires rows_linked { RowsLinked cells.now n links.now }
-    ensures { result ≡ choice (kind_in day) exposed hour (own unit (schedule_rows n cells.now)) }
+    ensures { result ≡ choice day exposed hour (own unit (schedule_rows n cells.now)) }
 {
     let kinds = eligible_kinds(
         day,
         exposed,
         has_any(cells, n, links, unit, hour, Kinds::OnlyM),
     );
-    let mut best = Chosen::Nothing;
+    let mut best = None;
     let mut left = link_at(links, ROWS + unit_key(unit));
     while 0 < left {
         let k = left - 1;
@@ -81,16 +81,16 @@ fn offers(cells: &[u64], i: usize, unit: u64, hour: u64, kinds: Kinds) -> bool
 }
 
 // The schedule whose row for the hour stands at `i`, as an answer shows it.
-fn shown(cells: &[u64], n: usize, links: &[u16], i: usize, hour: u64, day: DayKind) -> Choice
+fn shown(cells: &[u64], n: usize, links: &[u16], i: usize, hour: u64, day: Option<Kind>) -> Choice
     requires schedule_cells { ScheduleCells n cells.now }
     requires rows_linked { RowsLinked cells.now n links.now }
     requires i_lt_n { i < n }
     requires hour_le_last_hour { hour ≤ last_hour }
-    ensures { result ≡ choosing_shown (kind_in day) hour (own (schedule_at cells.now i).unit (schedule_rows n cells.now)) (schedule_at cells.now i) }
+    ensures { result ≡ choosing_shown day hour (own (schedule_at cells.now i).unit (schedule_rows n cells.now)) (schedule_at cells.now i) }
 {
     Choice {
         schedule: cell(cells, i, SCHEDULE),
         kind: kind(cells, i),
-        cost: cost(cells, n, links, i, hour, running(day)),
+        cost: cost(cells, n, links, i, hour, day.is_some()),
     }
 }

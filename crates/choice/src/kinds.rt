@@ -1,17 +1,9 @@
-// Schedules by their kind, and which kinds are eligible for a unit.
+// Schedules by their kind, and which kinds are eligible for a unit. The day has a unit running on a
+// schedule of a kind, or not running.
 ghost use Rattle.std.specs.Prelude.{◌≡◌};
-ghost use Rattle.choice.specs.Schedules.{is_running as schedules_running, on_cost, admits as schedules_admits, eligible_kinds};
-ghost use Rattle.choice.specs.promises.Kinds.{kind_in};
+ghost use Rattle.choice.specs.Schedules.{on_cost, admits as schedules_admits, eligible_kinds};
 
 use tables::Kind;
-
-// How the day has a unit: not running, or running on a schedule of a kind.
-#[derive(Clone, Copy)]
-pub enum DayKind {
-    NotRunning,
-    OnM,
-    OnC,
-}
 
 // Schedules by their kind.
 #[derive(Clone, Copy)]
@@ -22,8 +14,8 @@ pub enum Kinds {
 }
 
 // The kinds of schedule that are eligible.
-pub fn eligible_kinds(day: DayKind, exposed: bool, has_m: bool) -> Kinds
-    ensures { result ≡ eligible_kinds (kind_in day) exposed has_m }
+pub fn eligible_kinds(day: Option<Kind>, exposed: bool, has_m: bool) -> Kinds
+    ensures { result ≡ eligible_kinds day exposed has_m }
 {
     if on_cost(day) {
         return Kinds::OnlyC;
@@ -34,13 +26,12 @@ pub fn eligible_kinds(day: DayKind, exposed: bool, has_m: bool) -> Kinds
     if has_m { Kinds::OnlyM } else { Kinds::OnlyC }
 }
 
-fn on_cost(day: DayKind) -> bool
-    ensures { result ≡ on_cost (kind_in day) }
+fn on_cost(day: Option<Kind>) -> bool
+    ensures { result ≡ on_cost day }
 {
     match day {
-        DayKind::NotRunning => false,
-        DayKind::OnM => false,
-        DayKind::OnC => true,
+        Some(kind) => kind == Kind::C,
+        None => false,
     }
 }
 
@@ -50,24 +41,7 @@ pub fn admits(kinds: Kinds, kind: Kind) -> bool
 {
     match kinds {
         Kinds::All => true,
-        Kinds::OnlyM => match kind {
-            Kind::M => true,
-            Kind::C => false,
-        },
-        Kinds::OnlyC => match kind {
-            Kind::M => false,
-            Kind::C => true,
-        },
-    }
-}
-
-// Whether the day has the unit running.
-pub fn running(day: DayKind) -> bool
-    ensures { result ≡ schedules_running (kind_in day) }
-{
-    match day {
-        DayKind::NotRunning => false,
-        DayKind::OnM => true,
-        DayKind::OnC => true,
+        Kinds::OnlyM => kind == Kind::M,
+        Kinds::OnlyC => kind == Kind::C,
     }
 }

@@ -10,6 +10,6 @@ mod kinds;
 mod prices;
 mod rows;
 
-pub use choices::{Choice, Chosen};
+pub use choices::Choice;
 pub use choosing::{choose, has_any};
-pub use kinds::{DayKind, Kinds};
+pub use kinds::Kinds;

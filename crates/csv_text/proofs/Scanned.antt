@@ -13,8 +13,7 @@ use Rattle.base.proofs.Tests.{either, false-true}
 use Rattle.base.specs.promises.Counting.{one}
 use Rattle.csv_text.specs.Records.{State, begin, plain, quoted, closing, ended, broken, next, regular, final, textdata, Rest, byte, comma, crlf, grown, rest, rfc4180, records}
 use Rattle.csv_text.proofs.Steps.{broken-refuses}
-use Rattle.csv_text.specs.declared.scanning.Shape.TheVariants.{Regular}
-use Rattle.csv_text.specs.promises.Scan.{Tally, start, over, inside_field, separates, at_end, step, tally, finished, scan_answer, fitting, scanned}
+use Rattle.csv_text.specs.promises.Scan.{Tally, start, over, inside_field, separates, at_end, step, tally, finished, scan_answer, fitting, found_regular, scanned}
 use Rattle.csv_text.specs.Bytes.{COMMA, DQUOTE, LF}
 
 -- the field counts of the records from a tally on
@@ -230,10 +229,10 @@ module _ (width : ℕ) where
     where
       ends :
           Finds width start (map length (records s)) (finished width (tally width start s)) →
-          Regular (length (records s)) (fitting width (records s))
-          ≡ Regular (finished width (tally width start s)).records (finished width (tally width start s)).fitting
+          found_regular (length (records s)) (fitting width (records s))
+          ≡ found_regular (finished width (tally width start s)).records (finished width (tally width start s)).fitting
       ends f =
           unfold start joined fitting in
-          ap₂ Regular
+          ap₂ found_regular
           (omega (arith, length-map (records s) length, f.records))
           (omega (arith, f.fitting))

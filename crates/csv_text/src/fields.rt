@@ -14,15 +14,13 @@ pub fn field_length(s: &[u8]) -> usize
     ensures upper_bound { result ≤ length s.now }
 {
     let mut inside = false;
-    let mut i = 0;
-    while i < s.len() {
-        if separates(inside, s[i]) {
+    for (i, b) in s.iter().enumerate() {
+        if separates(inside, *b) {
             return i;
         }
-        inside = turned(inside, s[i]);
-        i += 1;
+        inside = turned(inside, *b);
     }
-    i
+    s.len()
 }
 
 // Where what is left unread begins, behind a field of `n` bytes at the start of `s` and behind its

@@ -7,4 +7,4 @@ mod fields;
 mod scanning;
 
 pub use fields::{after_field, field_length, inner};
-pub use scanning::{Shape, scan};
+pub use scanning::{Regular, scan};

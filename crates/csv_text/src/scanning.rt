@@ -1,5 +1,5 @@
 // The scan of a whole file, one byte after the other.
-ghost use Rattle.std.specs.Prelude.{◌≡◌, ◌&&◌, ◌≤◌, ◌^◌, max, eqb};
+ghost use Rattle.std.specs.Prelude.{◌≡◌, ◌&&◌, ◌≤◌, ◌^◌, eqb};
 ghost use Rattle.csv_text.specs.Records.{begin, plain, quoted, closing, ended, final, after_field, next as reading_next, textdata as reading_textdata};
 ghost use Rattle.csv_text.specs.promises.Scan.{scanned, state, tally_of, separates, at_end, scan_answer, step as Scan-step, over as scan_over, finished as scan_finished, Small};
 ghost use Rattle.base.specs.promises.Counting.{one};
@@ -12,12 +12,12 @@ const DQUOTE: u8 = 0x22;
 
 const COMMA: u8 = 0x2C;
 
-// What the scan of a file finds: its records, and how many of these have the fields that are asked
-// before the first that has not.
+// What the scan of a regular file finds: how many records it has, and how many of these have the
+// fields that are asked before the first that has not.
 #[derive(Clone, Copy)]
-pub enum Shape {
-    Regular(usize, usize),
-    Irregular,
+pub struct Regular {
+    pub records: usize,
+    pub fitting: usize,
 }
 
 // Where the next byte stands.
@@ -146,22 +146,10 @@ fn separator(place: Place, b: u8) -> usize
     ensures { result ≡ one (separates (state place) b) }
 {
     match place {
-        Place::Begin => comma(b),
-        Place::Plain => comma(b),
+        Place::Begin | Place::Plain | Place::Closing => usize::from(b == COMMA),
         Place::Quoted => 0,
-        Place::Closing => comma(b),
-        Place::Ended => 0,
-        Place::Broken => 0,
+        Place::Ended | Place::Broken => 0,
     }
-}
-
-fn comma(b: u8) -> usize
-    ensures { result ≡ one (eqb b 0x2C) }
-{
-    if b == COMMA {
-        return 1;
-    }
-    0
 }
 
 fn at_end(place: Place) -> bool
@@ -208,18 +196,7 @@ fn over(t: Tally, width: usize, place: Place) -> Tally
 fn fits(fitting: usize, records: usize, fields: usize, width: usize) -> usize
     ensures { result ≡ one (eqb fitting records && eqb width fields) }
 {
-    if fitting == records {
-        if width == fields {
-            return 1;
-        }
-    }
-    0
-}
-
-fn at_least_one(n: usize) -> usize
-    ensures { result ≡ max n 1 }
-{
-    if n < 1 { 1 } else { n }
+    usize::from(fitting == records && width == fields)
 }
 
 fn step(t: Tally, width: usize, b: u8) -> Tally
@@ -233,13 +210,13 @@ fn step(t: Tally, width: usize, b: u8) -> Tally
     }
     Tally {
         place: after,
-        fields: at_least_one(t.fields) + separator(place, b),
+        fields: t.fields.max(1) + separator(place, b),
         records: t.records,
         fitting: t.fitting,
     }
 }
 
-fn finished(t: Tally, width: usize) -> Shape
+fn finished(t: Tally, width: usize) -> Option<Regular>
     requires { Small t }
     ensures { result ≡ scan_answer (scan_finished width (tally_of t)) }
 {
@@ -250,17 +227,21 @@ fn finished(t: Tally, width: usize) -> Shape
     verdict(over(t, width, place))
 }
 
-fn verdict(t: Tally) -> Shape
+fn verdict(t: Tally) -> Option<Regular>
     ensures { result ≡ scan_answer (tally_of t) }
 {
     let place = t.place;
     if may_end(place) {
-        return Shape::Regular(t.records, t.fitting);
+        return Some(Regular {
+            records: t.records,
+            fitting: t.fitting,
+        });
     }
-    Shape::Irregular
+    None
 }
 
-pub fn scan(s: &[u8], width: usize) -> Shape
+// What the scan finds; nothing where the file is not RFC 4180.
+pub fn scan(s: &[u8], width: usize) -> Option<Regular>
     ensures { result ≡ scanned width s.now }
 {
     let mut t = Tally {
@@ -269,10 +250,8 @@ pub fn scan(s: &[u8], width: usize) -> Shape
         records: 0,
         fitting: 0,
     };
-    let mut i = 0;
-    while i < s.len() {
-        t = step(t, width, s[i]);
-        i += 1;
+    for b in s {
+        t = step(t, width, *b);
     }
     finished(t, width)
 }

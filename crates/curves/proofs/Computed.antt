@@ -1,8 +1,8 @@
 -- What the definitions of curves give for small curves, as tables that the checker computes. Assumes nothing.
+use Rattle.std.specs.Prelude.{None, Some}
 use Prim.Native.Nat.{ℕ}
 use mathlib.Core.Path.{◌≡◌, refl}
 use mathlib.Core.List.{List, [], ◌∷◌, map}
-use mathlib.Core.Option.{none, some}
 use Rattle.base.specs.Search.{first, any, find, those}
 use Rattle.tables.specs.Rows.{ScheduleRow, PointRow}
 use Rattle.tables.specs.Table.{M, C}
@@ -44,7 +44,7 @@ points = map (λ (p : ℕ). point 5 p p)
 
 -- the price at ecomin is that of the first point that reaches it, dearer than the column or not
 pub prices :
-    (map (λ (e : ℕ). price_at e curve) (0 ∷ 50 ∷ 51 ∷ 100 ∷ 101 ∷ []) ≡ some 1000 ∷ some 1000 ∷ some 2000 ∷ some 2000 ∷ none ∷ [])
+    (map (λ (e : ℕ). price_at e curve) (0 ∷ 50 ∷ 51 ∷ 100 ∷ 101 ∷ []) ≡ Some 1000 ∷ Some 1000 ∷ Some 2000 ∷ Some 2000 ∷ None ∷ [])
     × (priced curve (row_of C 5 100 3000 ∷ row_of M 5 50 900 ∷ row_of C 6 50 3000 ∷ [])
     ≡ row_of C 5 100 2000 ∷ row_of M 5 50 1000 ∷ row_of C 6 50 3000 ∷ [])
 unfolding curves_all searches_all
@@ -52,28 +52,28 @@ prices = (refl, refl)
 
 -- 32: the first point of an hour that has no row
 pub strays :
-    (stray_point rows curve ≡ none)
-    × (stray_point rows (point 5 50 1000 ∷ point 7 50 1000 ∷ point 8 50 1000 ∷ []) ≡ some 2)
-    × (stray_point [] curve ≡ some 1)
+    (stray_point rows curve ≡ None)
+    × (stray_point rows (point 5 50 1000 ∷ point 7 50 1000 ∷ point 8 50 1000 ∷ []) ≡ Some 2)
+    × (stray_point [] curve ≡ Some 1)
 unfolding curves_all searches_all
 strays = (refl, refl, refl)
 
 -- 33: against the curve's own point before, equal is not above, and ten are enough
 pub orders :
-    (disordered curve ≡ none)
-    × (disordered (point 5 50 1000 ∷ point 5 50 2000 ∷ []) ≡ some 2)
-    × (disordered (point 5 50 1000 ∷ point 5 60 1000 ∷ []) ≡ some 2)
-    × (disordered (point 5 50 1000 ∷ point 6 40 900 ∷ point 5 60 1100 ∷ point 6 45 950 ∷ []) ≡ none)
-    × (disordered (point 5 50 1000 ∷ point 6 70 3000 ∷ point 5 60 900 ∷ []) ≡ some 3)
-    × (disordered (points (1 ∷ 2 ∷ 3 ∷ 4 ∷ 5 ∷ 6 ∷ 7 ∷ 8 ∷ 9 ∷ 10 ∷ [])) ≡ none)
-    × (disordered (points (1 ∷ 2 ∷ 3 ∷ 4 ∷ 5 ∷ 6 ∷ 7 ∷ 8 ∷ 9 ∷ 10 ∷ 11 ∷ 12 ∷ [])) ≡ some 11)
+    (disordered curve ≡ None)
+    × (disordered (point 5 50 1000 ∷ point 5 50 2000 ∷ []) ≡ Some 2)
+    × (disordered (point 5 50 1000 ∷ point 5 60 1000 ∷ []) ≡ Some 2)
+    × (disordered (point 5 50 1000 ∷ point 6 40 900 ∷ point 5 60 1100 ∷ point 6 45 950 ∷ []) ≡ None)
+    × (disordered (point 5 50 1000 ∷ point 6 70 3000 ∷ point 5 60 900 ∷ []) ≡ Some 3)
+    × (disordered (points (1 ∷ 2 ∷ 3 ∷ 4 ∷ 5 ∷ 6 ∷ 7 ∷ 8 ∷ 9 ∷ 10 ∷ [])) ≡ None)
+    × (disordered (points (1 ∷ 2 ∷ 3 ∷ 4 ∷ 5 ∷ 6 ∷ 7 ∷ 8 ∷ 9 ∷ 10 ∷ 11 ∷ 12 ∷ [])) ≡ Some 11)
 unfolding curves_all searches_all
 orders = (refl, refl, refl, refl, refl, refl, refl)
 
 -- 34: the least of the last records of the curves that end below their row's ecomin
 pub ends :
-    (ends_low rows (point 5 50 1000 ∷ point 5 100 2000 ∷ point 6 70 1000 ∷ []) ≡ none)
-    × (ends_low rows (point 5 50 1000 ∷ point 6 60 1000 ∷ point 5 99 2000 ∷ point 6 69 2000 ∷ []) ≡ some 3)
-    × (ends_low rows (point 6 60 1000 ∷ point 5 50 1000 ∷ point 5 100 2000 ∷ []) ≡ some 1)
+    (ends_low rows (point 5 50 1000 ∷ point 5 100 2000 ∷ point 6 70 1000 ∷ []) ≡ None)
+    × (ends_low rows (point 5 50 1000 ∷ point 6 60 1000 ∷ point 5 99 2000 ∷ point 6 69 2000 ∷ []) ≡ Some 3)
+    × (ends_low rows (point 6 60 1000 ∷ point 5 50 1000 ∷ point 5 100 2000 ∷ []) ≡ Some 1)
 unfolding curves_all searches_all
 ends = (refl, refl, refl)

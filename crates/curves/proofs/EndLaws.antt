@@ -1,11 +1,10 @@
 -- Laws of curves that end below ecomin, one point a turn, over plain lists. Assumes nothing.
+use Rattle.std.specs.Prelude.{None, Some}
 use Prim.Native.Nat.{ℕ, zero, suc, ◌+◌, ◌-◌, ◌≤◌, ◌<◌}
 use mathlib.Core.Path.{◌≡◌, refl, sym, ◌∙◌}
 use mathlib.Core.Logic.{⊎_elim}
 use mathlib.Core.Bool.{Bool, true, false, not, ◌&&◌}
-use mathlib.Core.List.{List, [], ◌∷◌}
-use mathlib.Core.Option
-use mathlib.Core.Option.{none}
+use mathlib.Core.List.{List}
 use native.Mathlib.Omega.{arith}
 use native.Mathlib.Numerals.{add-one}
 use lib.Dec.{eqb, ltb}
@@ -13,7 +12,6 @@ use lib.ListN.{get_or, drop}
 use borrow.Author.Tests.{eq-eqb, ne_eqb, lt-ltb, le-ltb}
 use Rattle.base.specs.Search.{any}
 use Rattle.base.proofs.Lists.{drop-end}
-use Rattle.base.proofs.Places.{no_place}
 use Rattle.base.proofs.SearchLaws.{same_test}
 use Rattle.base.proofs.Tests.{eq-or-ne, lt-or-ge, and-fst, and-snd}
 use Rattle.tables.specs.Rows.{ScheduleRow, PointRow}
@@ -97,7 +95,6 @@ module _ (m : ℕ) (points places : List ℕ) (c : CurvePlaces m points places) 
 
 -- of m points the first i end no curve too low
 pub record Ending (m : ℕ) (points places lasts : List ℕ) (n : ℕ) (cells : List ℕ) (i : ℕ) : Type 0 where
-  pub upto : i ≤ m
   pub points-in : PointCells m points
   pub rows_in : RowCells n cells
   pub placed : Placed m points n cells places
@@ -112,7 +109,6 @@ module _ (m : ℕ) (points places lasts : List ℕ) (n : ℕ) (cells : List ℕ)
   unfolding ends_low
   ending-none p r s l =
       record {
-        upto = omega arith;
         points-in = p;
         rows_in = r;
         placed = s;
@@ -141,15 +137,14 @@ module _ (m : ℕ) (points places lasts : List ℕ) (n : ℕ) (cells : List ℕ)
             at_place,
           )
 
-      pub ending_here : (r : ℕ) → t ≡ true → r ≡ i + 1 → r ≡ Option.get_or (ends_low (schedule_rows n cells) (point_rows m points)) 0
+      pub ending_here : t ≡ true → Some (i + 1) ≡ ends_low (schedule_rows n cells) (point_rows m points)
       unfolding ends_low_from
-      ending_here r e named = named ∙ rw (l.rest, point-next m points i h, ← test, e) (add-one i)
+      ending_here e = rw (l.rest, point-next m points i h, ← test, e, add-one i)
 
       pub ending-next : t ≡ false → Ending m points places lasts n cells (i + 1)
       unfolding ends_low_from
       ending-next e =
           record {
-            upto = omega arith;
             points-in = l.points-in;
             rows_in = l.rows_in;
             placed = l.placed;
@@ -158,14 +153,7 @@ module _ (m : ℕ) (points places lasts : List ℕ) (n : ℕ) (cells : List ℕ)
           }
 
   pub ending-over :
-      (i : ℕ) → Ending m points places lasts n cells i → m ≤ i → (r : ℕ) → r ≡ 0 →
-      r ≡ Option.get_or (ends_low (schedule_rows n cells) (point_rows m points)) 0
+      (i : ℕ) → Ending m points places lasts n cells i → m ≤ i →
+      None ≡ ends_low (schedule_rows n cells) (point_rows m points)
   unfolding ends_low_from
-  ending-over i l h r e = e ∙ rw (l.rest, drop-end i (point_rows m points) (rw (point-length m points) h))
-
--- no record has the number 0
-pub ends-low-none : (rs : List ScheduleRow) (k : ℕ) (vs : List PointRow) → Option.get_or (ends_low_from rs (suc k) vs) 0 ≡ 0 → ends_low_from rs (suc k) vs ≡ none
-unfolding ends_low_from
-ends-low-none rs k [] e = refl
-ends-low-none rs k (v ∷ vs) e =
-    no_place (not (any (same_curve v) vs) && below_ecomin rs v) k (ends_low_from rs (suc (suc k)) vs) (ends-low-none rs (suc k) vs) e
+  ending-over i l h = rw (l.rest, drop-end i (point_rows m points) (rw (point-length m points) h))

@@ -1,11 +1,10 @@
 -- Laws of points held to the order of their curves, one point a turn, over plain lists. Assumes nothing.
+use Rattle.std.specs.Prelude.{None, Some}
 use Prim.Native.Nat.{ℕ, zero, suc, ◌+◌, ◌-◌, ◌≤◌, ◌<◌}
 use mathlib.Core.Path.{◌≡◌, refl, sym, ◌∙◌}
 use mathlib.Core.Logic.{⊎_elim}
 use mathlib.Core.Bool.{Bool, true, false, cond}
 use mathlib.Core.List.{List, [], ◌∷◌}
-use mathlib.Core.Option
-use mathlib.Core.Option.{none, some}
 use native.Mathlib.Omega.{arith}
 use native.Mathlib.Numerals.{add-one}
 use lib.Dec.{eqb}
@@ -14,7 +13,6 @@ use lib.Seq.{get_or-set_same, get_or-set_other}
 use borrow.Author.Tests.{eq-eqb, ne_eqb}
 use Rattle.base.specs.Search.{those}
 use Rattle.base.proofs.Lists.{drop-end}
-use Rattle.base.proofs.Places.{no_place}
 use Rattle.base.proofs.SearchLaws.{some-none}
 use Rattle.base.proofs.Tests.{eq-or-ne}
 use Rattle.tables.specs.Rows.{PointRow}
@@ -94,38 +92,32 @@ module _ (points places : List ℕ) where
         rw (curve-at i (omega arith), counted, some-points, ne_eqb (suc j) 0 (omega arith), one_less)
 
 -- of m points the first i are in order, and what is kept of each curve stands at its place
-pub record Ordering (m : ℕ) (points places lasts₀ counts₀ lasts counts : List ℕ) (i : ℕ) : Type 0 where
-  pub upto : i ≤ m
+pub record Ordering (m : ℕ) (points places lasts counts : List ℕ) (i : ℕ) : Type 0 where
   pub points-in : PointCells m points
   pub curves : CurvePlaces m points places
   pub lasts-in : LastsIn places lasts i
   pub counts-room : most_linked < length counts
   pub counted : (x : ℕ) → x ≤ most_linked → get_or counts x 0 ≡ length (points_at points places x i)
-  pub lasts-length : length lasts ≡ length lasts₀
-  pub counts-length : length counts ≡ length counts₀
   pub rest :
       disordered (point_rows m points) ≡ disordered_from (points_before points i) (suc i) (drop i (point_rows m points))
 
-module _ (m : ℕ) (points places lasts₀ counts₀ : List ℕ) where
+module _ (m : ℕ) (points places lasts counts : List ℕ) where
   pub ordering-none :
-      PointCells m points → CurvePlaces m points places → most_linked < length lasts₀ → Unlinked lasts₀ →
-      most_linked < length counts₀ → Unlinked counts₀ → Ordering m points places lasts₀ counts₀ lasts₀ counts₀ 0
+      PointCells m points → CurvePlaces m points places → most_linked < length lasts → Unlinked lasts →
+      most_linked < length counts → Unlinked counts → Ordering m points places lasts counts 0
   unfolding disordered points_before points_at last_same
   ordering-none p c room none_last counts-room none-counted =
       record {
-        upto = omega arith;
         points-in = p;
         curves = c;
         lasts-in = record { room = room; held = λ x h. none_last x };
         counts-room = counts-room;
         counted = λ x h. none-counted x;
-        lasts-length = refl;
-        counts-length = refl;
         rest = refl;
       }
 
   module _
-      (lasts counts : List ℕ) (i : ℕ) (l : Ordering m points places lasts₀ counts₀ lasts counts i) (h : i < m)
+      (i : ℕ) (l : Ordering m points places lasts counts i) (h : i < m)
       (place : ℕ) (at_place : place ≡ get_or places i 0)
     where
       place_inside : place ≤ most_linked
@@ -149,14 +141,14 @@ module _ (m : ℕ) (points places lasts₀ counts₀ : List ℕ) where
               (is_last ∙ l.lasts-in.held place place_inside ∙ rw at_place)
               (is-count ∙ l.counted place place_inside ∙ rw at_place))
 
-          found : t ≡ true → disordered (point_rows m points) ≡ some (suc i)
+          found : t ≡ true → disordered (point_rows m points) ≡ Some (suc i)
           unfolding disordered_from
           found e = l.rest ∙ rw (point-next m points i h, ← test, e)
 
-          pub ordering-here : (r : ℕ) → t ≡ true → r ≡ i + 1 → OrderFound m points places lasts r
-          ordering-here r e named =
+          pub ordering-here : t ≡ true → OrderFound m points places lasts (Some (i + 1))
+          ordering-here e =
               record {
-                fault = named ∙ rw (found e, add-one i);
+                fault = rw (found e, add-one i);
                 all-lasts = λ f. some-none (sym (found e) ∙ f);
               }
 
@@ -169,17 +161,14 @@ module _ (m : ℕ) (points places lasts₀ counts₀ : List ℕ) where
 
           pub ordering-next :
               (next_last next-count : ℕ) → t ≡ false → next_last ≡ i + 1 → next-count ≡ count + 1 →
-              Ordering m points places lasts₀ counts₀ (set lasts place next_last) (set counts place next-count) (i + 1)
+              Ordering m points places (set lasts place next_last) (set counts place next-count) (i + 1)
           ordering-next next_last next-count e is is-next =
               record {
-                upto = omega arith;
                 points-in = l.points-in;
                 curves = l.curves;
                 lasts-in = record { room = rw (length-set lasts place next_last) l.lasts-in.room; held = held };
                 counts-room = rw (length-set counts place next-count) l.counts-room;
                 counted = counted;
-                lasts-length = length-set lasts place next_last ∙ l.lasts-length;
-                counts-length = length-set counts place next-count ∙ l.counts-length;
                 rest = passed e;
               }
             where
@@ -205,20 +194,10 @@ module _ (m : ℕ) (points places lasts₀ counts₀ : List ℕ) where
                   (l.counted x g))
                   (eq-or-ne x place)
 
-  pub ordering-over :
-      (lasts counts : List ℕ) (i : ℕ) → Ordering m points places lasts₀ counts₀ lasts counts i → m ≤ i → (r : ℕ) → r ≡ 0 →
-      OrderFound m points places lasts r
+  pub ordering-over : (i : ℕ) → Ordering m points places lasts counts i → i ≡ m → OrderFound m points places lasts None
   unfolding disordered_from
-  ordering-over lasts counts i l h r e =
-      let whole : i ≡ m = omega (arith, l.upto) in
+  ordering-over i l whole =
       record {
-        fault = e ∙ rw (l.rest, drop-end i (point_rows m points) (rw (point-length m points) h));
+        fault = rw (l.rest, drop-end i (point_rows m points) (rw (point-length m points) (omega arith)));
         all-lasts = λ _. rw (← whole) l.lasts-in;
       }
-
--- no record has the number 0
-pub disordered-none : (seen : List PointRow) (k : ℕ) (vs : List PointRow) → Option.get_or (disordered_from seen (suc k) vs) 0 ≡ 0 → disordered_from seen (suc k) vs ≡ none
-unfolding disordered_from
-disordered-none seen k [] e = refl
-disordered-none seen k (v ∷ vs) e =
-    no_place (breaks_order v (those (same_curve v) seen)) k (disordered_from (v ∷ seen) (suc (suc k)) vs) (disordered-none (v ∷ seen) (suc k) vs) e

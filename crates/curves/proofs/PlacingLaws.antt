@@ -1,14 +1,14 @@
 -- Laws of points whose rows are found, one point a turn, over plain lists. Assumes nothing.
+use Rattle.std.specs.Prelude.{None, Some, Option, IfSome}
 use Prim.Native.Nat.{ℕ, suc, ◌+◌, ◌-◌, ◌≤◌, ◌<◌}
 use mathlib.Core.Path.{◌≡◌, refl, sym, ◌∙◌, ap}
 use mathlib.Core.Logic.{⊎_elim}
 use mathlib.Core.Bool.{Bool, true, not}
 use mathlib.Core.List.{List}
-use mathlib.Core.Option.{some}
 use native.Mathlib.Omega.{arith}
 use native.Mathlib.Numerals.{add-one}
 use lib.Dec.{eqb}
-use lib.ListN.{length, get_or, set, drop, length-set}
+use lib.ListN.{length, get_or, set, drop}
 use lib.Seq.{get_or-set_same, get_or-set_other}
 use Rattle.base.specs.Search.{first, any}
 use Rattle.base.proofs.Lists.{drop-end}
@@ -43,99 +43,81 @@ module _ (points : List ℕ) (i n : ℕ) (cells : List ℕ) where
           let same = of_row (schedule_at cells j) (point_at points i) e in
           rw (is, is-unit, is-schedule, ap (λ (h : ScheduleHour). h.unit) same, ap (λ (h : ScheduleHour). h.schedule) same)
 
-  pub found-there : (r : ℕ) → r ≤ n → 0 < r → at (r - 1) ≡ true → RowFound points i n cells r
-  found-there r h some-row e = record { upto = h; there = λ _. e; absent = λ z. absurd (omega arith) }
+  pub found_none : {links : List ℕ} {left : ℕ} → Along at n links left → left ≤ 0 → RowFound points i n cells None
+  found_none {links} {left} l h = rows-any cells (λ (row : ScheduleRow). point_of row (point_at points i)) n ∙ sym (along-over at n links left l h)
 
-  pub found-along : {links : List ℕ} {left : ℕ} → Along at n links left → 0 < left → at (left - 1) ≡ true → RowFound points i n cells left
-  found-along {left = left} l h e = found-there left l.upto h e
-
-  pub found_none : {links : List ℕ} {left : ℕ} → Along at n links left → left ≤ 0 → RowFound points i n cells 0
-  found_none {links} {left} l h =
-      record {
-        upto = omega arith;
-        there = λ z. absurd (omega arith);
-        absent = λ _. rows-any cells (λ (row : ScheduleRow). point_of row (point_at points i)) n ∙ sym (along-over at n links left l h);
-      }
-
--- of m points the first i have their rows in a run; `place` is the last one found
-pub record Placing (m : ℕ) (points : List ℕ) (n : ℕ) (cells places₀ places : List ℕ) (place i : ℕ) : Type 0 where
-  pub upto : i ≤ m
-  pub same_length : length places ≡ length places₀
-  pub tried : place ≤ n
+-- of m points the first i have their rows in a run; a row to try next is the last one found
+pub record Placing (m : ℕ) (points : List ℕ) (n : ℕ) (cells places : List ℕ) (tried : Option ℕ) (i : ℕ) : Type 0 where
+  pub tried-in : IfSome tried (λ (k : ℕ). k < n)
   pub placed : (j : ℕ) → j < i → (0 < get_or places j 0) × (get_or places j 0 ≤ n) × (point_of (schedule_at cells (get_or places j 0 - 1)) (point_at points j) ≡ true)
   pub rest :
       stray_point (schedule_rows n cells) (point_rows m points)
       ≡ first (λ (v : PointRow). not (any (λ (r : ScheduleRow). point_of r v) (schedule_rows n cells))) (suc i) (drop i (point_rows m points))
 
-module _ (m : ℕ) (points : List ℕ) (n : ℕ) (cells places₀ : List ℕ) where
+module _ (m : ℕ) (points : List ℕ) (n : ℕ) (cells places : List ℕ) where
   abbrev stray : PointRow → Bool
   stray v = not (any (λ (r : ScheduleRow). point_of r v) (schedule_rows n cells))
 
-  pub placing-none : Placing m points n cells places₀ places₀ 0 0
+  pub placing-none : Placing m points n cells places None 0
   unfolding stray_point
   placing-none =
       record {
-        upto = omega arith;
-        same_length = refl;
-        tried = omega arith;
+        tried-in = tt;
         placed = λ j h. absurd (omega arith);
         rest = refl;
       }
 
-  module _
-      (places : List ℕ) (last i place : ℕ) (l : Placing m points n cells places₀ places last i) (h : i < m)
-      (found : RowFound points i n cells place)
-    where
-      pub placing-here : (r : ℕ) → place ≡ 0 → r ≡ i + 1 → PointsPlaced m points n cells places r
-      placing-here r None-found named =
-          let is-stray : stray_point (schedule_rows n cells) (point_rows m points) ≡ some (suc i) =
-          l.rest ∙ rw (point-next m points i h) (first-here stray (suc i) (point_at points i) _ (ap not (found.absent None-found))) in
-          record {
-            stray = named ∙ rw (is-stray, add-one i);
-            all_placed = λ e. some-none (sym is-stray ∙ e);
-          }
+  module _ (last : Option ℕ) (i : ℕ) (l : Placing m points n cells places last i) (h : i < m) where
+    pub placing-here : RowFound points i n cells None → PointsPlaced m points n cells places (Some (i + 1))
+    placing-here none-found =
+        let is-stray : stray_point (schedule_rows n cells) (point_rows m points) ≡ Some (suc i) =
+        l.rest ∙ rw (point-next m points i h) (first-here stray (suc i) (point_at points i) _ (ap not none-found)) in
+        record {
+          stray = rw (is-stray, add-one i);
+          all_placed = λ e. some-none (sym is-stray ∙ e);
+        }
 
-      has-row : (place ≡ 0 → ⊥) → any (λ (r : ScheduleRow). point_of r (point_at points i)) (schedule_rows n cells) ≡ true
-      has-row some-row =
-          rows-any cells (λ (r : ScheduleRow). point_of r (point_at points i)) n
-          ∙ any_place (at points i n cells) n (place - 1) (omega (arith, found.upto)) (found.there (omega arith))
+    pub placing-next :
+        (place : ℕ) → RowFound points i n cells (Some place) → (stored : ℕ) → i < length places → stored ≡ place + 1 →
+        Placing m points n cells (set places i stored) (Some place) (i + 1)
+    placing-next place found stored room is =
+        record {
+          tried-in = found.0;
+          placed = λ j f. ⊎_elim (here j) (other j f) (eq-or-ne j i);
+          rest =
+              l.rest
+              ∙ rw (point-next m points i h, add-one i) (first-later stray (suc i) (point_at points i) _ (ap not has-row));
+        }
+      where
+        has-row : any (λ (r : ScheduleRow). point_of r (point_at points i)) (schedule_rows n cells) ≡ true
+        has-row =
+            rows-any cells (λ (r : ScheduleRow). point_of r (point_at points i)) n
+            ∙ any_place (at points i n cells) n place found.0 found.1
 
-      pub placing-next :
-          (stored : ℕ) → (place ≡ 0 → ⊥) → i < length places → stored ≡ place →
-          Placing m points n cells places₀ (set places i stored) place (i + 1)
-      placing-next stored some-row room is =
-          record {
-            upto = omega arith;
-            same_length = length-set places i stored ∙ l.same_length;
-            tried = found.upto;
-            placed = λ j f. ⊎_elim (here j) (other j f) (eq-or-ne j i);
-            rest =
-                l.rest
-                ∙ rw (point-next m points i h, add-one i) (first-later stray (suc i) (point_at points i) _ (ap not (has-row some-row)));
-          }
-        where
-          Goal : ℕ → Type 0
-          Goal j =
-              (0 < get_or (set places i stored) j 0)
-              × (get_or (set places i stored) j 0 ≤ n)
-              × (point_of (schedule_at cells (get_or (set places i stored) j 0 - 1)) (point_at points j) ≡ true)
+        Goal : ℕ → Type 0
+        Goal j =
+            (0 < get_or (set places i stored) j 0)
+            × (get_or (set places i stored) j 0 ≤ n)
+            × (point_of (schedule_at cells (get_or (set places i stored) j 0 - 1)) (point_at points j) ≡ true)
 
-          here : (j : ℕ) → j ≡ i → Goal j
-          here j f = rw (f, get_or-set_same places i stored 0 room, is) (omega arith, found.upto, found.there (omega arith))
+        here : (j : ℕ) → j ≡ i → Goal j
+        here j f =
+            let back : place + 1 - 1 ≡ place = omega arith in
+            rw (f, get_or-set_same places i stored 0 room, is, back) (omega arith, omega (arith, found.0), found.1)
 
-          other : (j : ℕ) → j < i + 1 → (j ≡ i → ⊥) → Goal j
-          other j g f = rw (get_or-set_other places i j stored 0 f) (l.placed j (omega arith))
+        other : (j : ℕ) → j < i + 1 → (j ≡ i → ⊥) → Goal j
+        other j g f = rw (get_or-set_other places i j stored 0 f) (l.placed j (omega arith))
 
   pub placing-over :
-      (places : List ℕ) (place i : ℕ) → Placing m points n cells places₀ places place i → m ≤ i → m ≤ length places₀ →
-      (r : ℕ) → r ≡ 0 → PointsPlaced m points n cells places r
-  placing-over places place i l h room r e =
+      (last : Option ℕ) (i : ℕ) → Placing m points n cells places last i → m ≤ i → m ≤ length places →
+      PointsPlaced m points n cells places None
+  placing-over last i l h room =
       record {
-        stray = e ∙ rw (l.rest, drop-end i (point_rows m points) (rw (point-length m points) h), first-none stray (suc i));
+        stray = rw (l.rest, drop-end i (point_rows m points) (rw (point-length m points) h), first-none stray (suc i));
         all_placed =
             λ _.
             record {
-              room = rw l.same_length room;
+              room = room;
               some-row = λ j f. (l.placed j (omega arith)).0;
               upto = λ j f. (l.placed j (omega arith)).1;
               its-row = λ j f. (l.placed j (omega arith)).2;

@@ -1,11 +1,10 @@
 -- What pricing rows by curves changes and what it leaves: rows without points keep their column; the rules 6 to 9 see no price; prices stay
 -- within their range; and a unit's rows are priced by its own rows and its own points alone. Assumes nothing.
+use Rattle.std.specs.Prelude.{Option, Some, option_map, unwrap_or}
 use Prim.Native.Nat.{ℕ, zero, suc, ◌+◌, ◌-◌, ◌≤◌, ◌<◌}
 use mathlib.Core.Path.{◌≡◌, refl, sym, ◌∙◌, ap, ap₂}
 use mathlib.Core.Bool.{Bool, true, false, cond, not, ◌&&◌}
 use mathlib.Core.List.{List, [], ◌∷◌, map}
-use mathlib.Core.Option
-use mathlib.Core.Option.{Option, some, get_or}
 use native.Mathlib.Omega.{arith}
 use lib.Dec.{eqb, leb}
 use lib.ListN.{length, drop, length-map}
@@ -108,7 +107,7 @@ module _ (vs : List PointRow) where
   priced-count rs = length-map rs (priced_row vs)
 
 -- a curve's prices are within their range
-price-ranged : (ecomin d : ℕ) {vs : List PointRow} → All PermittedPoint vs → d ≤ highest_cost → get_or (price_at ecomin vs) d ≤ highest_cost
+price-ranged : (ecomin d : ℕ) {vs : List PointRow} → All PermittedPoint vs → d ≤ highest_cost → unwrap_or (price_at ecomin vs) d ≤ highest_cost
 unfolding price_at find
 price-ranged ecomin d all_none h = h
 price-ranged ecomin d {vs = v ∷ vs} (all_more p a) h = go (leb ecomin v.mw) (price-ranged ecomin d a h)
@@ -117,8 +116,8 @@ price-ranged ecomin d {vs = v ∷ vs} (all_more p a) h = go (leb ecomin v.mw) (p
     more = find (λ (w : PointRow). leb ecomin w.mw) vs
 
     go :
-        (t : Bool) → get_or (Option.map (λ (w : PointRow). w.price) more) d ≤ highest_cost →
-        get_or (Option.map (λ (w : PointRow). w.price) (cond t (some v) more)) d ≤ highest_cost
+        (t : Bool) → unwrap_or (option_map (λ (w : PointRow). w.price) more) d ≤ highest_cost →
+        unwrap_or (option_map (λ (w : PointRow). w.price) (cond t (Some v) more)) d ≤ highest_cost
     go true _ = p.price
     go false below = below
 

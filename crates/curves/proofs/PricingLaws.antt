@@ -20,7 +20,7 @@ use Rattle.cells.proofs.RowStores.{cell-kept}
 use Rattle.cells.proofs.RowViews.{point-next, point-length}
 use Rattle.curves.specs.Curves.{point_of, price_at, with_price, priced_row}
 use Rattle.curves.specs.promises.Placing.{PointCells, RowCells, Placed}
-use Rattle.curves.specs.promises.Pricing.{price_stored, RowsPriced}
+use Rattle.curves.specs.promises.Pricing.{price_stored}
 use Rattle.curves.proofs.PointLaws.{row-once}
 
 -- one point more in front of a curve
@@ -119,10 +119,10 @@ module _ (m : ℕ) (points places : List ℕ) (n : ℕ) (old : List ℕ) where
     in-file : i < m
     in-file = omega (arith, l.upto)
 
-    pub pricing-some : 0 < get_or places i 0
+    pricing-some : 0 < get_or places i 0
     pricing-some = l.placed.some-row i in-file
 
-    pub pricing-row : (k : ℕ) → k ≡ get_or places i 0 - 1 → k < n
+    pricing-row : (k : ℕ) → k ≡ get_or places i 0 - 1 → k < n
     pricing-row k e = omega (arith, pricing-some, l.placed.upto i in-file)
 
     module _ (k : ℕ) (e : k ≡ get_or places i 0 - 1) where
@@ -203,8 +203,3 @@ module _ (m : ℕ) (points places : List ℕ) (n : ℕ) (old : List ℕ) where
               ∙ again (omega (arith, reaches))))
               (λ (other : j ≡ k → ⊥). store_other new k v.price j other ∙ l.each j f ∙ sym (other_row j f other))
               (eq-or-ne j k)))
-
-  pub pricing-over : (new : List ℕ) (left : ℕ) → Pricing m points places n old new left → left ≤ 0 → RowsPriced m points n old new
-  pricing-over new left l h =
-      let all_come : left ≡ 0 = omega arith in
-      record { same_length = l.same_length; each = rw all_come at l.each }

@@ -1,8 +1,6 @@
 -- Document 02, F-3: "Sellers submit a curve, not one price." The points of one schedule hour, in file order, are its curve:
 -- what they must be to schedule rows and to each other, and the price that a row has by them. Assumes nothing.
-use Rattle.std.specs.Prelude.{ℕ, suc, Bool, false, cond, not, ◌&&◌, ◌||◌, List, [], ◌∷◌, map, eqb, leb, ltb, length}
-use Rattle.std.proofs.Math.Option
-use Rattle.std.proofs.Math.Option.{Option, none, some, get_or}
+use Rattle.std.specs.Prelude.{ℕ, suc, Bool, false, cond, not, ◌&&◌, ◌||◌, List, [], ◌∷◌, map, eqb, leb, ltb, length, None, Option, Some, option_map, unwrap_or}
 use Rattle.base.specs.Search.{first, any, find, those}
 use Rattle.tables.specs.Rows.{ScheduleRow, PointRow}
 
@@ -40,7 +38,7 @@ breaks_order v (w ∷ ws) = not (ltb w.mw v.mw && ltb w.price v.price) || leb mo
 
 -- "The price at ecomin is that of the first point whose mw is at least ecomin."
 unfoldable pub price_at : ℕ → List PointRow → Option ℕ
-price_at ecomin vs = Option.map (λ (v : PointRow). v.price) (find (λ (v : PointRow). leb ecomin v.mw) vs)
+price_at ecomin vs = option_map (λ (v : PointRow). v.price) (find (λ (v : PointRow). leb ecomin v.mw) vs)
 
 -- "A schedule hour with points uses it in place of its price column; one without uses the column."
 unfoldable pub with_price : ScheduleRow → ℕ → ScheduleRow
@@ -58,7 +56,7 @@ with_price r price =
     }
 
 unfoldable pub priced_row : List PointRow → ScheduleRow → ScheduleRow
-priced_row vs r = with_price r (get_or (price_at r.ecomin (those (point_of r) vs)) r.price)
+priced_row vs r = with_price r (unwrap_or (price_at r.ecomin (those (point_of r) vs)) r.price)
 
 unfoldable pub priced : List PointRow → List ScheduleRow → List ScheduleRow
 priced vs rs = map (priced_row vs) rs
@@ -70,10 +68,10 @@ stray_point rs vs = first (λ (v : PointRow). not (any (λ (r : ScheduleRow). po
 -- 33: "an order or number of points outside these rules", the first record, where the list's first has the number k and `seen` came
 -- before it, the last first
 unfoldable pub disordered_from : List PointRow → ℕ → List PointRow → Option ℕ
-disordered_from seen k [] = none
+disordered_from seen k [] = None
 disordered_from seen k (v ∷ vs) =
     let more = disordered_from (v ∷ seen) (suc k) vs in
-    cond (breaks_order v (those (same_curve v) seen)) (some k) more
+    cond (breaks_order v (those (same_curve v) seen)) (Some k) more
 
 unfoldable pub disordered : List PointRow → Option ℕ
 disordered vs = disordered_from [] 1 vs
@@ -85,10 +83,10 @@ below_ecomin rs v = any (λ (r : ScheduleRow). point_of r v && ltb v.mw r.ecomin
 -- 34: "a curve ending below ecomin .. the first record, for 34 the curve's last": the first record that is its curve's last and
 -- lies below, where the list's first has the number k
 unfoldable pub ends_low_from : List ScheduleRow → ℕ → List PointRow → Option ℕ
-ends_low_from rs k [] = none
+ends_low_from rs k [] = None
 ends_low_from rs k (v ∷ vs) =
     let more = ends_low_from rs (suc k) vs in
-    cond (not (any (same_curve v) vs) && below_ecomin rs v) (some k) more
+    cond (not (any (same_curve v) vs) && below_ecomin rs v) (Some k) more
 
 unfoldable pub ends_low : List ScheduleRow → List PointRow → Option ℕ
 ends_low rs vs = ends_low_from rs 1 vs

@@ -1,6 +1,5 @@
 // Refusal 34: the first record that is its curve's last and lies below the ecomin of its row.
 ghost use Rattle.std.specs.Prelude.{◌≡◌, eqb, ltb, length, ◌&&◌, ◌+◌, ◌*◌, ◌≤◌, ◌<◌};
-ghost use Rattle.std.proofs.Math.Option.{get_or};
 ghost use Rattle.cells.specs.promises.Views.{schedule_at, schedule_width, point_at, point_width};
 ghost use Rattle.tables.specs.promises.FlatRows.{schedule_rows, point_rows};
 ghost use Rattle.curves.specs.Curves.{ends_low};
@@ -9,7 +8,7 @@ ghost use Rattle.curves.specs.promises.Placing.{PointCells, RowCells, Placed, La
 use cells::{point, schedule};
 use links::link_at;
 
-// That record, 0 where there is none; records count from 1.
+// That record, if there is one. Records count from 1.
 pub fn ends_low(
     points: &[u64],
     m: usize,
@@ -17,22 +16,20 @@ pub fn ends_low(
     lasts: &[u16],
     cells: &[u64],
     n: usize,
-) -> usize
+) -> Option<usize>
     requires point_cells { PointCells m points.now }
     requires row_cells { RowCells n cells.now }
     requires placed { Placed m points.now n cells.now places.now }
     requires lasts_in { LastsIn places.now lasts.now m }
-    ensures { result ≡ get_or (ends_low (schedule_rows n cells.now) (point_rows m points.now)) 0 }
+    ensures { result ≡ ends_low (schedule_rows n cells.now) (point_rows m points.now) }
 {
-    let mut i = 0;
-    while i < m {
+    for i in 0..m {
         let place = link_at(places, i);
         if is_low_end(points, i, link_at(lasts, place), cells, place - 1) {
-            return i + 1;
+            return Some(i + 1);
         }
-        i += 1;
     }
-    0
+    None
 }
 
 // Whether point `i` is its curve's last, by the curve's last record, and lies below the ecomin of row `k`.

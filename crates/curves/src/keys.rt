@@ -24,11 +24,9 @@ pub fn number_units(units: &[u64], numbers: &mut [u8])
     requires { unit_places ≤ length numbers.old }
     ensures { numbers.new ≡ numbered units.now (length units.now) numbers.old }
 {
-    let mut i = 0;
-    while i < units.len() {
-        let place = (units[i] % UNIT_PLACES as u64) as usize;
+    for (i, &unit) in units.iter().enumerate() {
+        let place = (unit % UNIT_PLACES as u64) as usize;
         numbers[place] = (i % UNITS) as u8;
-        i += 1;
     }
 }
 
@@ -41,12 +39,10 @@ pub fn link_schedules(cells: &[u64], n: usize, numbers: &[u8], links: &mut [u16]
     requires unlinked { Unlinked links.old }
     ensures { Linked (row_key numbers.now cells.now) own_keys n links.new }
 {
-    let mut k = 0;
-    while k < n {
+    for k in 0..n {
         let unit = schedule::cell(cells, k, schedule::UNIT);
         let key = own_key(numbers, unit, schedule::cell(cells, k, schedule::SCHEDULE));
         link(links, key, k);
-        k += 1;
     }
 }
 

@@ -11,15 +11,15 @@ use links::link_at;
 // The most points that a curve may have.
 const MOST_POINTS: usize = 10;
 
-// The first record out of order, 0 where there is none; records count from 1. Where there is none, the
-// last record of each curve stands at its place.
+// The first record out of order, if there is one. Records count from 1. Where there is none, the last
+// record of each curve stands at its place.
 pub fn disordered(
     points: &[u64],
     m: usize,
     places: &[u16],
     lasts: &mut [u16],
     counts: &mut [u16],
-) -> usize
+) -> Option<usize>
     requires point_cells { PointCells m points.now }
     requires curve_places { CurvePlaces m points.now places.now }
     requires most_linked_in_bounds { most_linked < length lasts.old }
@@ -28,18 +28,16 @@ pub fn disordered(
     requires unlinked_2 { Unlinked counts.old }
     ensures { OrderFound m points.now places.now lasts.new result }
 {
-    let mut i = 0;
-    while i < m {
+    for i in 0..m {
         let place = link_at(places, i);
         let count = link_at(counts, place);
         if breaks(points, i, link_at(lasts, place), count) {
-            return i + 1;
+            return Some(i + 1);
         }
         lasts[place] = (i + 1) as u16;
         counts[place] = (count + 1) as u16;
-        i += 1;
     }
-    0
+    None
 }
 
 // Whether point `i` breaks the order behind record `last` of its curve, 0 for none, with so many points

@@ -1,6 +1,6 @@
 // Refusal 32, and the schedule row of each point, found along the links of its schedule: curves often
 // come point behind point, so the row of the point before is tried first.
-ghost use Rattle.std.specs.Prelude.{◌≡◌, ◌+◌, ◌*◌, ◌≤◌, ◌<◌, length};
+ghost use Rattle.std.specs.Prelude.{◌≡◌, ◌+◌, ◌*◌, ◌≤◌, ◌<◌, length, IfSome};
 ghost use Rattle.cells.specs.promises.Views.{schedule_at, schedule_width, point_at, point_width};
 ghost use Rattle.links.specs.promises.Links.{most_linked, Linked};
 ghost use Rattle.curves.specs.Curves.{point_of};
@@ -12,8 +12,8 @@ use cells::{point, schedule};
 use links::{ROWS, link_at};
 
 // Lays down the row of each point, as one more than its place, as far as the first record whose schedule
-// hour has no row, and answers that record, 0 where each has one. Records count from 1. The units are those
-// that rows may be of: others share keys, which only takes longer.
+// hour has no row, and answers that record, if there is one. Records count from 1. The units are those that
+// rows may be of: others share keys, which only takes longer.
 pub fn place_points(
     points: &[u64],
     m: usize,
@@ -21,7 +21,7 @@ pub fn place_points(
     n: usize,
     units: &[u64],
     places: &mut [u16],
-) -> usize
+) -> Option<usize>
     requires point_cells { PointCells m points.now }
     requires n_le_most_linked { n ≤ most_linked }
     requires schedule_width_in_bounds { n * schedule_width ≤ length cells.now }
@@ -44,7 +44,7 @@ fn place_each(
     numbers: &[u8],
     links: &[u16],
     places: &mut [u16],
-) -> usize
+) -> Option<usize>
     requires point_cells { PointCells m points.now }
     requires schedule_width_in_bounds { n * schedule_width ≤ length cells.now }
     requires unit_places_in_bounds { unit_places ≤ length numbers.now }
@@ -52,21 +52,18 @@ fn place_each(
     requires m_in_bounds { m ≤ length places.old }
     ensures { PointsPlaced m points.now n cells.now places.new result }
 {
-    let mut place = 0;
-    let mut i = 0;
-    while i < m {
-        place = row_of(points, i, cells, n, numbers, links, place);
-        if place == 0 {
-            return i + 1;
-        }
-        places[i] = place as u16;
-        i += 1;
+    let mut tried = None;
+    for i in 0..m {
+        let Some(place) = row_of(points, i, cells, n, numbers, links, tried) else {
+            return Some(i + 1);
+        };
+        places[i] = (place + 1) as u16;
+        tried = Some(place);
     }
-    0
+    None
 }
 
-// One more than the place of the row of point `i`, 0 where it has none; a row to try first is given so
-// too.
+// The place of the row of point `i`, if it has one. The row at a place may be given to try first.
 fn row_of(
     points: &[u64],
     i: usize,
@@ -74,18 +71,18 @@ fn row_of(
     n: usize,
     numbers: &[u8],
     links: &[u16],
-    tried: usize,
-) -> usize
+    tried: Option<usize>,
+) -> Option<usize>
     requires point_width_in_bounds { i * point_width + point_width ≤ length points.now }
     requires schedule_width_in_bounds { n * schedule_width ≤ length cells.now }
     requires unit_places_in_bounds { unit_places ≤ length numbers.now }
     requires linked { Linked (row_key numbers.now cells.now) own_keys n links.now }
-    requires tried_le_n { tried ≤ n }
+    requires tried_lt_n { IfSome tried (λ k. k < n) }
     ensures { RowFound points.now i n cells.now result }
 {
-    if 0 < tried {
-        if is_of(points, i, cells, tried - 1) {
-            return tried;
+    if let Some(place) = tried {
+        if is_of(points, i, cells, place) {
+            return Some(place);
         }
     }
     row_along(points, i, cells, n, numbers, links)
@@ -99,7 +96,7 @@ fn row_along(
     n: usize,
     numbers: &[u8],
     links: &[u16],
-) -> usize
+) -> Option<usize>
     requires point_width_in_bounds { i * point_width + point_width ≤ length points.now }
     requires schedule_width_in_bounds { n * schedule_width ≤ length cells.now }
     requires unit_places_in_bounds { unit_places ≤ length numbers.now }
@@ -110,12 +107,13 @@ fn row_along(
     let key = own_key(numbers, unit, point::cell(points, i, point::SCHEDULE));
     let mut left = link_at(links, ROWS + key);
     while 0 < left {
-        if is_of(points, i, cells, left - 1) {
-            return left;
+        let place = left - 1;
+        if is_of(points, i, cells, place) {
+            return Some(place);
         }
-        left = link_at(links, left - 1);
+        left = link_at(links, place);
     }
-    0
+    None
 }
 
 // Whether point `i` is of the schedule and hour of row `k`. Hours first: rows along links are mostly of

@@ -15,10 +15,8 @@ pub fn price_rows(points: &[u64], m: usize, places: &[u16], cells: &mut [u64], n
     requires placed { Placed m points.now n cells.old places.now }
     ensures { RowsPriced m points.now n cells.old cells.new }
 {
-    let mut left = m;
-    while 0 < left {
-        left -= 1;
-        price_row(points, left, cells, link_at(places, left) - 1);
+    for i in (0..m).rev() {
+        price_row(points, i, cells, link_at(places, i) - 1);
     }
 }
 

@@ -1,9 +1,9 @@
 -- Laws of a unit's choice by the day's kind for it, and of laying down its row. Assumes nothing.
+use Rattle.std.specs.Prelude.{None, Option, Some}
 use Prim.Native.Nat.{ℕ, ◌≤◌}
 use mathlib.Core.Path.{◌≡◌, refl, sym, ◌∙◌, ap}
 use mathlib.Core.Bool.{Bool, true, false, not}
 use mathlib.Core.List.{List, [], ◌∷◌, ◌++◌}
-use mathlib.Core.Option.{Option}
 use native.Mathlib.Omega.{arith}
 use lib.ListN.{length, set, drop, length-drop}
 use Rattle.base.proofs.Tests.{false-true}
@@ -12,33 +12,29 @@ use Rattle.tables.specs.declared.files.Kind.{Kind}
 use Rattle.choice.specs.Choosing.{choice}
 use Rattle.choice.specs.Schedules.{on_cost, has_any, schedules}
 use Rattle.choice.specs.declared.choices.Choice.{Choice}
-use Rattle.choice.specs.declared.choices.Chosen.{Chosen}
-use Rattle.choice.specs.declared.choices.Chosen.TheVariants.{Schedule, Nothing}
-use Rattle.choice.specs.declared.kinds.DayKind.{DayKind}
-use Rattle.choice.specs.declared.kinds.DayKind.TheVariants.{OnC}
+use Rattle.tables.specs.declared.files.Kind.TheVariants.{C}
 use Rattle.choice.specs.declared.kinds.Kinds.TheVariants.{OnlyC}
-use Rattle.choice.specs.promises.Kinds.{kind_in}
 use Rattle.cells.specs.promises.Views.{answer_width}
 use Rattle.outcome.specs.Decision.{no_choice, chosen_or}
 use Rattle.decision.specs.promises.Choosing.{lacks_cost_on, row_from, answer_cells, RowChosen}
 use Rattle.decision.specs.declared.testing.UnitTest.{UnitTest}
 
 -- 21 asks only for units that run on cost
-module _ (h : ℕ) (rows : List ScheduleRow) (day : DayKind) where
-  pub lacks-none : (k : DayKind) → day ≡ k → on_cost (kind_in k) ≡ false → false ≡ lacks_cost_on (kind_in day) h rows
+module _ (h : ℕ) (rows : List ScheduleRow) (day : Option Kind) where
+  pub lacks-none : (k : Option Kind) → day ≡ k → on_cost k ≡ false → false ≡ lacks_cost_on day h rows
   unfolding lacks_cost_on
   lacks-none k f g = rw (f, g)
 
-  pub lacks-on-cost : day ≡ OnC → {r : Bool} → r ≡ has_any OnlyC (schedules h rows) → not r ≡ lacks_cost_on (kind_in day) h rows
+  pub lacks-on-cost : day ≡ Some C → {r : Bool} → r ≡ has_any OnlyC (schedules h rows) → not r ≡ lacks_cost_on day h rows
   unfolding lacks_cost_on
   lacks-on-cost f g = rw (f, g)
 
 -- what was chosen, or nothing
-module _ {r made : Chosen} (is : r ≡ made) where
-  pub chosen-one : (s : Choice) → r ≡ Schedule s → s ≡ chosen_or made
+module _ {r made : Option Choice} (is : r ≡ made) where
+  pub chosen-one : (s : Choice) → r ≡ Some s → s ≡ chosen_or made
   chosen-one s f = rw (← is, f)
 
-  pub chosen-nothing : r ≡ Nothing → no_choice ≡ chosen_or made
+  pub chosen-nothing : r ≡ None → no_choice ≡ chosen_or made
   chosen-nothing f = rw (← is, f)
 
 -- a unit's row: not laid down where 21 names the unit, else by the schedule chosen

@@ -1,4 +1,5 @@
 -- What is chosen for the units of supply, each with its test, is what the study's definition decides. Assumes nothing.
+use Rattle.std.specs.Prelude.{Result}
 use Prim.Native.Nat.{ℕ}
 use mathlib.Core.Path.{◌≡◌, refl, ◌∙◌, ap}
 use mathlib.Core.List.{List, [], ◌∷◌, map}
@@ -9,11 +10,11 @@ use Rattle.tables.specs.declared.constraint.ConstraintRow.{ConstraintRow}
 use Rattle.supply.specs.Supply.{units}
 use Rattle.outcome.specs.Day.{RunningUnit}
 use Rattle.outcome.specs.Decision.{choice_of, decided_row, decided, no_cost_schedule}
+use Rattle.decision.specs.declared.deciding.NoCostSchedule.{NoCostSchedule}
 use Rattle.decision.specs.promises.Choosing.{row_chosen, tested_units, ChoosesRows}
 use Rattle.decision.specs.promises.Deciding.{DecidesRows}
 use Rattle.decision.specs.promises.Testing.{unit_test}
 use Rattle.decision.specs.promises.Units.{UnitsOf}
-use Rattle.decision.specs.declared.deciding.Decided.{Decided}
 use Rattle.decision.specs.declared.testing.UnitTest.{UnitTest}
 
 module _ (c : ConstraintRow) (supply : List SupplyRow) (scheduled : List ScheduleRow) (running : List RunningUnit) where
@@ -30,7 +31,7 @@ module _ (c : ConstraintRow) (supply : List SupplyRow) (scheduled : List Schedul
 
   pub decides-rows :
       (k : ℕ) (us : List ℕ) → UnitsOf k supply us → (ts : List UnitTest) → ts ≡ map (unit_test c supply) (take k us) →
-      (new : List ℕ) (r : Decided) → ChoosesRows c.hour scheduled running ts k new r →
+      (new : List ℕ) (r : Result (Unit {0}) NoCostSchedule) → ChoosesRows c.hour scheduled running ts k new r →
       DecidesRows c supply scheduled running k new r
   unfolding no_cost_schedule decided
   decides-rows k us of-supply ts tested new r chosen =

@@ -1,10 +1,10 @@
 -- Laws of laying down the rows of units that have been tested, one after the other, and of what was laid down. Assumes
 -- nothing.
+use Rattle.std.specs.Prelude.{Err, Ok, Option, Some}
 use Prim.Native.Nat.{ℕ, ◌+◌, ◌*◌, ◌-◌, ◌≤◌, ◌<◌}
 use mathlib.Core.Path.{◌≡◌, refl, sym, ◌∙◌, ap}
 use mathlib.Core.Bool.{Bool, true, false, not}
 use mathlib.Core.List.{List, [], ◌∷◌, ◌++◌, map, append_assoc, append-nil}
-use mathlib.Core.Option.{Option, some}
 use native.Mathlib.Omega.{arith}
 use borrow.Author.Tests.{not-true, not-false}
 use lib.ListN.{length, get_or, take, drop, length-append, length-drop, length-map, take-append-drop}
@@ -20,7 +20,6 @@ use Rattle.cells.specs.promises.Views.{answer_width, answer_rows}
 use Rattle.outcome.specs.Day.{RunningUnit, kind_running}
 use Rattle.outcome.specs.Decision.{lacks_cost}
 use Rattle.decision.specs.promises.Choosing.{lacks_cost_on, answer_cells, row_chosen, tested_units, RowChosen, ChoosesRows}
-use Rattle.decision.specs.declared.deciding.Decided.TheVariants.{All, NoCostSchedule}
 use Rattle.decision.specs.declared.testing.UnitTest.{UnitTest}
 
 -- a run of cells with some rows laid down from its start
@@ -56,15 +55,11 @@ module _ (h : ℕ) (scheduled : List ScheduleRow) (running : List RunningUnit) (
     pub laid : laid_rows (rows ts) old ≡ take (i * answer_width) now ++ laid_rows (rows (drop i ts)) (drop (i * answer_width) now)
     pub same_length : length now ≡ length old
 
-  pub laying-none : k ≤ length tests → k * answer_width ≤ length old → Laying old 0
-  laying-none a b =
-      record { upto = omega arith; there = a; room = b; none_before = refl; laid = refl; same_length = refl }
-
   module _ (now : List ℕ) (i : ℕ) (l : Laying now i) where
     long : length ts ≡ k
     long = length-take-le k tests l.there
 
-    pub laying-over : k ≤ i → ChoosesRows h scheduled running ts k now All
+    pub laying-over : k ≤ i → ChoosesRows h scheduled running ts k now (Ok tt)
     unfolding find laid_rows
     laying-over z =
         let none_left : drop i ts ≡ [] = drop-end i ts (omega (arith, long)) in
@@ -82,9 +77,6 @@ module _ (h : ℕ) (scheduled : List ScheduleRow) (running : List RunningUnit) (
           drop-next unread i ts (omega (arith, long))
           ∙ rw (is, get_or-take k tests i unread inside)
 
-      pub part_room : answer_width ≤ length (take (length now - i * answer_width) (drop (i * answer_width) now))
-      part_room = rw (rest-lent (i * 7) now) (omega (arith, length-drop (i * 7) now, l.same_length, l.room))
-
       module _
           (day : Option Kind) (its-kind : day ≡ kind_running t.unit running) {after : List ℕ} {r : Bool}
           (chosen : RowChosen h (own t.unit scheduled) day t (take (length now - i * answer_width) (drop (i * answer_width) now)) after r)
@@ -93,12 +85,12 @@ module _ (h : ℕ) (scheduled : List ScheduleRow) (running : List RunningUnit) (
           unfolding lacks_cost_on lacks_cost
           lacks = rw its-kind
 
-          pub laying-without-cost : not r ≡ true → (new : List ℕ) → ChoosesRows h scheduled running ts k new (NoCostSchedule t.unit)
+          pub laying-without-cost : not r ≡ true → (new : List ℕ) → ChoosesRows h scheduled running ts k new (Err (record { unit = t.unit }))
           unfolding find
           laying-without-cost e new =
               let costless : lacks_cost h scheduled running t.unit ≡ true =
               sym lacks ∙ not-false _ (sym chosen.answers ∙ not-true r e) in
-              let named : named_in ts ≡ some t.unit = l.none_before ∙ rw (next, costless) in
+              let named : named_in ts ≡ Some t.unit = l.none_before ∙ rw (next, costless) in
               record {
                 answers = rw named;
                 rows = λ z. let o : ◌≡◌ {A = ℕ} 0 1 = cc in absurd (omega arith);

@@ -1,48 +1,19 @@
 -- Laws of suppliers put into the rows of an answer, one row a turn, and of what that makes of decided rows. Assumes nothing.
-use Prim.Native.Nat.{ℕ, ◌+◌, ◌*◌, ◌≤◌, ◌<◌}
-use mathlib.Core.Path.{◌≡◌, refl, ◌∙◌}
+use Prim.Native.Nat.{ℕ, ◌*◌, ◌≤◌, ◌<◌}
+use mathlib.Core.Path.{◌≡◌, refl}
 use mathlib.Core.List.{List, [], ◌∷◌, map}
 use native.Mathlib.Omega.{arith}
-use lib.ListN.{length, get_or, set, take, drop, length-set}
-use lib.Seq.{get_or-set_same, get_or-set_other, get_or-take, length-take-le}
+use lib.ListN.{length, get_or, take, drop}
+use lib.Seq.{get_or-take, length-take-le}
 use Rattle.base.proofs.Lists.{drop-next, drop-end}
 use Rattle.tables.specs.Rows.{SupplyRow, ScheduleRow}
 use Rattle.tables.specs.declared.constraint.ConstraintRow.{ConstraintRow}
 use Rattle.cells.specs.promises.Views.{answer_at, answer_rows}
-use Rattle.cells.proofs.RowStores.{cell-kept, Changing, changing-none, changing-next, changing-over}
+use Rattle.cells.proofs.RowStores.{Changing, changing-over}
 use Rattle.cells.proofs.RowViews.{answer-next, answer-length}
 use Rattle.outcome.specs.Day.{RunningUnit}
 use Rattle.outcome.specs.Decision.{decided_row}
 use Rattle.decision.specs.promises.Naming.{supplier_of, named, all_named, RowsNamed}
-
--- a store of a supplier: its row, and another
-module _ (cells : List ℕ) (i v : ℕ) where
-  abbrev stored : List ℕ
-  stored = set cells (i * 7 + 1) v
-
-  stored_same : i * 7 + 1 < length cells → answer_at stored i ≡ named v (answer_at cells i)
-  stored_same h =
-      rw (
-        get_or-set_other cells (i * 7 + 1) (i * 7 + 0) v 0 (omega arith),
-        get_or-set_same cells (i * 7 + 1) v 0 h,
-        get_or-set_other cells (i * 7 + 1) (i * 7 + 2) v 0 (omega arith),
-        get_or-set_other cells (i * 7 + 1) (i * 7 + 3) v 0 (omega arith),
-        get_or-set_other cells (i * 7 + 1) (i * 7 + 4) v 0 (omega arith),
-        get_or-set_other cells (i * 7 + 1) (i * 7 + 5) v 0 (omega arith),
-        get_or-set_other cells (i * 7 + 1) (i * 7 + 6) v 0 (omega arith),
-      )
-
-  stored_other : (j : ℕ) → (j ≡ i → ⊥) → answer_at stored j ≡ answer_at cells j
-  stored_other j e =
-      rw (
-        cell-kept 7 cells i 1 v (omega arith) j 0 (omega arith) e,
-        cell-kept 7 cells i 1 v (omega arith) j 1 (omega arith) e,
-        cell-kept 7 cells i 1 v (omega arith) j 2 (omega arith) e,
-        cell-kept 7 cells i 1 v (omega arith) j 3 (omega arith) e,
-        cell-kept 7 cells i 1 v (omega arith) j 4 (omega arith) e,
-        cell-kept 7 cells i 1 v (omega arith) j 5 (omega arith) e,
-        cell-kept 7 cells i 1 v (omega arith) j 6 (omega arith) e,
-      )
 
 -- of k rows the first i have their suppliers, and the others are as they were
 pub record Naming (suppliers : List ℕ) (k : ℕ) (old new : List ℕ) (i : ℕ) : Type 0 where
@@ -52,23 +23,6 @@ pub record Naming (suppliers : List ℕ) (k : ℕ) (old new : List ℕ) (i : ℕ
   pub changing : Changing answer_at (λ (j : ℕ). named (get_or suppliers j 0)) k old new i
 
 module _ (suppliers : List ℕ) (k : ℕ) (old : List ℕ) where
-  pub naming-none : k ≤ length suppliers → k * 7 ≤ length old → Naming suppliers k old old 0
-  naming-none l r = record { listed = l; room = r; untouched = λ _. refl; changing = changing-none _ _ k old }
-
-  pub naming-next :
-      (new : List ℕ) (i s : ℕ) → Naming suppliers k old new i → i < k → s ≡ get_or suppliers i 0 →
-      Naming suppliers k old (set new (i * 7 + 1) s) (i + 1)
-  naming-next new i s n h its =
-      record {
-        listed = n.listed;
-        room = n.room;
-        untouched = λ e. absurd (omega arith);
-        changing =
-            changing-next _ _ k old new (set new (i * 7 + 1) s) i n.changing h (length-set new (i * 7 + 1) s)
-            (stored_same new i s (omega (arith, n.room, n.changing.same_length)) ∙ rw its)
-            (stored_other new i s);
-      }
-
   all_named_lem :
       (new : List ℕ) (i : ℕ) → Naming suppliers k old new i → k ≤ i →
       answer_rows k new ≡ all_named (take k suppliers) (answer_rows k old)

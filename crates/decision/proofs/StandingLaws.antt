@@ -1,4 +1,5 @@
 -- Laws of how the market stands, and of a unit's test in it. Assumes nothing.
+use Rattle.std.specs.Prelude.{None, Some}
 use Prim.Native.Nat.{ℕ, ◌≤◌, ◌<◌}
 use mathlib.Core.Path.{◌≡◌, refl, sym, ◌∙◌, ap}
 use mathlib.Core.Bool.{true, false}
@@ -22,7 +23,6 @@ use Rattle.offers.proofs.CellLaws.{row-at}
 use Rattle.market.proofs.ClearingLaws.{clearing-clears}
 use Rattle.outcome.specs.Decision.{untested, cleared}
 use Rattle.decision.specs.promises.Standing.{MarketCells, standing, Stands}
-use Rattle.decision.specs.declared.standing.Standing.TheVariants.{Short, Cleared}
 
 module _ (c : ConstraintRow) (n : ℕ) (cells : List ℕ) (market : MarketCells c n cells) where
   pub relief-fits : c.relief ≤ most_relief
@@ -59,7 +59,7 @@ module _ (c : ConstraintRow) (supply : List SupplyRow) (x y : ℕ) (e : x ≡ el
   unfolding untested short
   is-enough h = le-ltb (eligible_supply c.cutoff supply) (need_of c.relief) (omega (arith, h, e, f))
 
-  pub stands-short : x < y → (ps amounts' : List ℕ) → Stands c supply ps amounts' Short
+  pub stands-short : x < y → (ps amounts' : List ℕ) → Stands c supply ps amounts' None
   unfolding standing
   stands-short h ps amounts' =
       record {
@@ -97,7 +97,7 @@ module _
 
     pub stands-cleared :
         amounts' ≡ map (amount_of c.cutoff (supply_at cells q) (supply_rows n cells)) (take count ps) ++ drop count old-amounts →
-        Stands c (supply_rows n cells) ps amounts' (Cleared q count)
+        Stands c (supply_rows n cells) ps amounts' (Some (record { row = q; parties = count }))
     unfolding standing amounts amount
     stands-cleared added =
         record {

@@ -1,4 +1,7 @@
 -- Laws of a unit's test: one for each way through the code. Assumes nothing.
+use Rattle.std.specs.Prelude.{None, Option, Some}
+use Rattle.pivotal.specs.declared.Tested.{Tested}
+use Rattle.decision.specs.declared.standing.Cleared.{Cleared}
 use Prim.Native.Nat.{ℕ, ◌≤◌, ◌<◌}
 use mathlib.Core.Path.{◌≡◌, refl, sym, ◌∙◌, ap}
 use mathlib.Core.Bool.{Bool, true, false}
@@ -18,35 +21,31 @@ use Rattle.market.specs.Parties.{party, parties, amount_of, amounts}
 use Rattle.market.specs.Removals.{PartyOf}
 use Rattle.market.proofs.AmountLaws.{amounts-limited}
 use Rattle.market.proofs.LeastOverRows.{party-place}
+use Rattle.offers.specs.Relevant.{relevant}
 use Rattle.offers.specs.Supply.{no_row, row_at}
 use Rattle.offers.proofs.CellLaws.{row-at}
 use Rattle.pivotal.specs.Test.{left, test_verdict, U, P, F, verdict_letter, finding, test_outcome, tested}
-use Rattle.pivotal.specs.declared.Answer.{Answer}
-use Rattle.pivotal.specs.declared.Answer.TheVariants.{Tested, Refused}
 use Rattle.pivotal.specs.declared.Finding.{Finding}
 use Rattle.pivotal.proofs.Limits.{Limited, answered, not-refused}
 use Rattle.choice.specs.Exposure.{exposed}
 use Rattle.outcome.specs.Decision.{unit_row, untested, left_of, verdict_of, left_shown, has_relevant, has_eligible, exposed_unit}
 use Rattle.decision.specs.promises.Standing.{MarketCells, standing, Stands}
 use Rattle.decision.specs.promises.Testing.{unit_test, InMarket}
-use Rattle.decision.specs.promises.Units.{UnitFound, any_of, wanted_row}
-use Rattle.decision.specs.declared.standing.Standing.{Standing}
-use Rattle.decision.specs.declared.standing.Standing.TheVariants.{Short, Cleared}
-use Rattle.decision.specs.declared.units.Wanted.TheVariants.{Eligible, Relevant}
+use Rattle.decision.specs.promises.Units.{UnitFound, any_of}
 use Rattle.decision.proofs.StandingLaws.{clears-within, cleared-row}
 
 -- what each standing says
 module _ (c : ConstraintRow) (supply : List SupplyRow) where
-  short-stands : untested c supply ≡ true → standing c supply ≡ Short
+  short-stands : untested c supply ≡ true → standing c supply ≡ None
   unfolding standing
   short-stands e = simp e
 
-  cleared-stands : untested c supply ≡ false → standing c supply ≡ Cleared (clearing c.cutoff (need_of c.relief) supply) (length (parties supply))
+  cleared-stands : untested c supply ≡ false → standing c supply ≡ Some (record { row = clearing c.cutoff (need_of c.relief) supply; parties = length (parties supply) })
   unfolding standing
   cleared-stands e = simp e
 
-  module _ (ps amounts' : List ℕ) {r : Standing} (stands : Stands c supply ps amounts' r) where
-    pub was-short : r ≡ Short → untested c supply ≡ true
+  module _ (ps amounts' : List ℕ) {r : Option Cleared} (stands : Stands c supply ps amounts' r) where
+    pub was-short : r ≡ None → untested c supply ≡ true
     was-short e = go (untested c supply) refl
       where
         go : (t : Bool) → untested c supply ≡ t → untested c supply ≡ true
@@ -54,36 +53,37 @@ module _ (c : ConstraintRow) (supply : List SupplyRow) where
         go false f = let z : ◌≡◌ {A = ℕ} 0 1 = cc (stands.answers, e, cleared-stands f) in absurd (omega arith)
 
     pub was-cleared :
-        {q count : ℕ} → r ≡ Cleared q count →
-        (count ≡ length (parties supply)) × InMarket c supply q (take count ps) (take count amounts')
-    was-cleared {q} {count} e = go (untested c supply) refl
+        {m : Cleared} → r ≡ Some m →
+        (m.parties ≡ length (parties supply)) × InMarket c supply m.row (take m.parties ps) (take m.parties amounts')
+    was-cleared {m} e = go (untested c supply) refl
       where
-        go : (t : Bool) → untested c supply ≡ t → (count ≡ length (parties supply)) × InMarket c supply q (take count ps) (take count amounts')
+        go : (t : Bool) → untested c supply ≡ t → (m.parties ≡ length (parties supply)) × InMarket c supply m.row (take m.parties ps) (take m.parties amounts')
         go true f = let z : ◌≡◌ {A = ℕ} 0 1 = cc (stands.answers, e, short-stands f) in absurd (omega arith)
         go false f =
-            let counted : count ≡ length (parties supply) = cc (stands.answers, e, cleared-stands f) in
-            let clears : q ≡ clearing c.cutoff (need_of c.relief) supply = cc (stands.answers, e, cleared-stands f) in
+            let same : ◌≡◌ {A = Cleared} m (record { row = clearing c.cutoff (need_of c.relief) supply; parties = length (parties supply) }) = cc (stands.answers, e, cleared-stands f) in
+            let counted = ap (λ (k : Cleared). k.parties) same in
+            let clears = ap (λ (k : Cleared). k.row) same in
             (counted, record { enough = f; clears = clears; all-parties = rw counted (stands.listed f); all-amounts = rw counted (stands.added f) })
 
     -- as the parts that are lent
     pub lent-market :
-        {q count : ℕ} → r ≡ Cleared q count → (k : ℕ) → k ≡ count → InMarket c supply q (take k ps) (take k amounts')
+        {m : Cleared} → r ≡ Some m → (k : ℕ) → k ≡ m.parties → InMarket c supply m.row (take k ps) (take k amounts')
     lent-market e k f = rw f (was-cleared e).1
 
     -- the parties and amounts reach as far as there are parties
-    pub parties-reach : {q count : ℕ} → r ≡ Cleared q count → (count ≤ length ps) × (count ≤ length amounts')
+    pub parties-reach : {m : Cleared} → r ≡ Some m → (m.parties ≤ length ps) × (m.parties ≤ length amounts')
     unfolding amounts
-    parties-reach {q} {count} e =
+    parties-reach {m} e =
         let (counted, found) = was-cleared e in
-        let all : length (take count ps) ≡ count = ap length found.all-parties ∙ sym counted in
-        let each : length (take count amounts') ≡ count = ap length found.all-amounts ∙ amounts-length _ ∙ sym counted in
+        let all : length (take m.parties ps) ≡ m.parties = ap length found.all-parties ∙ sym counted in
+        let each : length (take m.parties amounts') ≡ m.parties = ap length found.all-amounts ∙ amounts-length _ ∙ sym counted in
         (reach ps all, reach amounts' each)
       where
         amounts-length : (q : SupplyRow) → length (amounts c.cutoff q supply) ≡ length (parties supply)
         amounts-length q = length-map (parties supply) (amount_of c.cutoff q supply)
 
-        reach : (l : List ℕ) → length (take count l) ≡ count → count ≤ length l
-        reach l z = omega (arith, length-take count l)
+        reach : (l : List ℕ) → length (take m.parties l) ≡ m.parties → m.parties ≤ length l
+        reach l z = omega (arith, length-take m.parties l)
 
 -- the test of a unit, whose row is w
 module _ (c : ConstraintRow) (supply : List SupplyRow) (u : ℕ) (w : SupplyRow) (found : w ≡ unit_row supply u) (x : ℕ) (its : x ≡ w.supplier) where
@@ -113,22 +113,15 @@ module _ (c : ConstraintRow) (supply : List SupplyRow) (u : ℕ) (w : SupplyRow)
         let passes : test_verdict (left_of c supply (party (unit_row supply u))) (need_of c.relief) ≡ P = sym (rw l at f) in
         simp (enough, passes, supplier-shown, l)
 
--- what is asked for, as the code asks it
-pub eligible-wanted :
-    (c : ConstraintRow) (supply : List SupplyRow) (cells : List ℕ) (u : ℕ) (e : Bool) →
-    e ≡ any_of u (wanted_row cells c.cutoff Eligible) supply → e ≡ has_eligible c supply u
-unfolding has_eligible wanted_row
-eligible-wanted c supply cells u e f = f
-
 module _
     (c : ConstraintRow) (n : ℕ) (cells : List ℕ) (market : MarketCells c n cells) {q : ℕ} {ps amounts' : List ℕ}
     (in-market : InMarket c (supply_rows n cells) q ps amounts')
   where
+    -- whether the unit has a relevant row, as the code asks it
     pub relevant-wanted :
         (u : ℕ) (e : Bool) →
-        e ≡ any_of u (wanted_row cells c.cutoff (Relevant q)) (supply_rows n cells) →
-        e ≡ has_relevant c (supply_rows n cells) u
-    unfolding has_relevant wanted_row
+        e ≡ any_of u (relevant c.cutoff (supply_at cells q)) (supply_rows n cells) → e ≡ has_relevant c (supply_rows n cells) u
+    unfolding has_relevant
     relevant-wanted u e f = rw (← cleared-row c n cells market in-market.enough q in-market.clears) f
 
     pub market-clears : q < n
@@ -163,13 +156,13 @@ module _
         unfolding left_of
         remains-left = rw (placed, its, found.found, in-market.all-parties, in-market.all-amounts)
 
-        module _ {r : Answer} (answers : test_outcome r ≡ tested amounts' place need) where
+        module _ {r : Option Tested} (answers : test_outcome r ≡ tested amounts' place need) where
           pub party-tested :
-              {l : ℕ} {v w : Finding} → r ≡ Tested l v → v ≡ w →
-              (l ≡ left_of c (supply_rows n cells) (party (unit_row (supply_rows n cells) u))) × (finding w ≡ test_verdict l (need_of c.relief))
-          party-tested {l} {v} e f =
-              let (remains, verdict) = answered amounts' place need market-limited party-there l v (sym (ap test_outcome e) ∙ answers) in
+              {t : Tested} {w : Finding} → r ≡ Some t → t.found ≡ w →
+              (t.left ≡ left_of c (supply_rows n cells) (party (unit_row (supply_rows n cells) u))) × (finding w ≡ test_verdict t.left (need_of c.relief))
+          party-tested {t} e f =
+              let (remains, verdict) = answered amounts' place need market-limited party-there t (sym (ap test_outcome e) ∙ answers) in
               (remains ∙ remains-left, rw (← f, remains, ← needed) verdict)
 
-          pub party-not-refused : r ≡ Refused → ⊥
+          pub party-not-refused : r ≡ None → ⊥
           party-not-refused e = not-refused amounts' place need market-limited party-there (sym (ap test_outcome e) ∙ answers)

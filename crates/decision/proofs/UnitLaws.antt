@@ -1,7 +1,7 @@
 -- Laws of the searches among a unit's supply rows that stand in cells, and of the units of supply. Assumes nothing.
 use Prim.Native.Nat.{ℕ, zero, suc, ◌+◌, ◌*◌, ◌≤◌, ◌<◌}
 use mathlib.Core.Path.{◌≡◌, refl, sym, ◌∙◌}
-use mathlib.Core.Bool.{Bool, true, false, ◌||◌, or-true}
+use mathlib.Core.Bool.{Bool, true, false, ◌||◌, or-true, and-false}
 use mathlib.Core.List.{List, [], ◌∷◌}
 use mathlib.Core.Logic.{⊎_elim}
 use native.Mathlib.Nat.{le_of_suc-le-suc, not-suc-le-zero}
@@ -20,7 +20,8 @@ use Rattle.cells.specs.promises.Views.{supply_width, supply_at}
 use Rattle.offers.proofs.CellLaws.{rows_next, rows_end}
 use Rattle.supply.proofs.UnitLaws.{among-units}
 use Rattle.outcome.specs.Decision.{of_unit, unit_row}
-use Rattle.decision.specs.promises.Units.{UnitsOf, UnitFound, any_of}
+use Rattle.market.specs.promises.Parts.{Tests}
+use Rattle.decision.specs.promises.Units.{UnitsOf, UnitFound, any_of, HasWanted}
 
 pub of-unit : (cells : List ℕ) (i u : ℕ) → eqb (get_or cells (i * supply_width + 0) 0) u ≡ of_unit u (supply_at cells i)
 unfolding of_unit
@@ -75,6 +76,27 @@ module _ (u n : ℕ) (cells : List ℕ) where
         seeking-found
         (λ e. false-true (sym (any-over (of_unit u) n cells (i + 1) h) ∙ (seeking-later e).there))
         (either (of_unit u (supply_at cells i)))
+
+-- the search for a row of the unit that passes a test, from the first of its rows on
+module _ (answers : ℕ → Bool → Type 0) (u n : ℕ) (cells : List ℕ) where
+  -- what holds before row i: none of the rows before it is one
+  abbrev pub Wanting : ℕ → Type 0
+  Wanting i =
+      (p : SupplyRow → Bool) → Tests answers n cells p →
+      any_of u p (supply_rows n cells) ≡ any_of u p (drop i (supply_rows n cells))
+
+  module _ (i : ℕ) (wanting : Wanting i) where
+    pub wanting-found : i < n → of_unit u (supply_at cells i) ≡ true → answers i true → HasWanted answers u n cells true
+    wanting-found h e y p t = sym (wanting p t ∙ any-further _ n cells i h ∙ simp (e, ← t i true h y))
+
+    pub wanting-other : i < n → of_unit u (supply_at cells i) ≡ false → Wanting (i + 1)
+    wanting-other h e p t = wanting p t ∙ any-further _ n cells i h ∙ simp e
+
+    pub wanting-later : i < n → answers i false → Wanting (i + 1)
+    wanting-later h y p t = wanting p t ∙ any-further _ n cells i h ∙ simp (← t i false h y, and-false)
+
+    pub wanting-over : n ≤ i → HasWanted answers u n cells false
+    wanting-over h p t = sym (wanting p t ∙ any-over _ n cells i h)
 
 among-get_or : (l : List ℕ) (i : ℕ) → i < length l → among (get_or l i 0) l ≡ true
 unfolding among

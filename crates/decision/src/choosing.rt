@@ -4,13 +4,12 @@ ghost use Rattle.links.specs.promises.Links.{RowsLinked};
 ghost use Rattle.schedules.specs.Schedules.{own};
 ghost use Rattle.choice.specs.Choosing.{choice};
 ghost use Rattle.choice.specs.promises.Ranges.{ScheduleCells};
-ghost use Rattle.choice.specs.promises.Kinds.{kind_in};
 ghost use Rattle.outcome.specs.Decision.{chosen_or};
 ghost use Rattle.decision.specs.promises.Choosing.{lacks_cost_on};
 ghost use Rattle.tables.specs.promises.FlatRows.{schedule_rows};
 
 use crate::testing::UnitTest;
-use choice::{Choice, Chosen, DayKind, Kinds, choose, has_any};
+use choice::{Choice, Kinds, choose, has_any};
 use tables::Kind;
 
 // Whether the unit runs on cost and has no C schedule.
@@ -20,16 +19,18 @@ pub fn lacks_cost(
     links: &[u16],
     hour: u64,
     unit: u64,
-    day: DayKind,
+    day: Option<Kind>,
 ) -> bool
     requires schedule_cells { ScheduleCells n cells.now }
     requires rows_linked { RowsLinked cells.now n links.now }
-    ensures { result ≡ lacks_cost_on (kind_in day) hour (own unit (schedule_rows n cells.now)) }
+    ensures { result ≡ lacks_cost_on day hour (own unit (schedule_rows n cells.now)) }
 {
     match day {
-        DayKind::NotRunning => false,
-        DayKind::OnM => false,
-        DayKind::OnC => !has_any(cells, n, links, unit, hour, Kinds::OnlyC),
+        None => false,
+        Some(kind) => match kind {
+            Kind::M => false,
+            Kind::C => !has_any(cells, n, links, unit, hour, Kinds::OnlyC),
+        },
     }
 }
 
@@ -40,15 +41,15 @@ pub fn choose_for(
     links: &[u16],
     hour: u64,
     test: UnitTest,
-    day: DayKind,
+    day: Option<Kind>,
 ) -> Choice
     requires schedule_cells { ScheduleCells n cells.now }
     requires rows_linked { RowsLinked cells.now n links.now }
-    ensures { result ≡ chosen_or (choice (kind_in day) test.exposed hour (own test.unit (schedule_rows n cells.now))) }
+    ensures { result ≡ chosen_or (choice day test.exposed hour (own test.unit (schedule_rows n cells.now))) }
 {
     match choose(cells, n, links, test.unit, hour, test.exposed, day) {
-        Chosen::Schedule(choice) => choice,
-        Chosen::Nothing => Choice {
+        Some(choice) => choice,
+        None => Choice {
             schedule: 0,
             kind: Kind::C,
             cost: 0,

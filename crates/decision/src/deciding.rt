@@ -5,7 +5,6 @@ ghost use Rattle.links.specs.promises.Links.{RowsLinked};
 ghost use Rattle.supply.specs.Supply.{most_units};
 ghost use Rattle.schedules.specs.Schedules.{own};
 ghost use Rattle.choice.specs.promises.Ranges.{ScheduleCells};
-ghost use Rattle.choice.specs.promises.Kinds.{kind_in};
 ghost use Rattle.cells.specs.promises.Views.{answer_width};
 ghost use Rattle.outcome.specs.Day.{most_running};
 ghost use Rattle.running.specs.View.{units_of};
@@ -17,15 +16,14 @@ ghost use Rattle.decision.specs.promises.Units.{UnitsOf};
 use crate::choosing::{choose_for, lacks_cost};
 use crate::testing::{Tests, UnitTest, test_units};
 use cells::{Sizes, answer};
-use choice::{Choice, DayKind};
+use choice::Choice;
 use running::Units;
-use tables::{ConstraintRow, letter_of};
+use tables::{ConstraintRow, Kind, letter_of};
 
-// Every unit is decided, or a unit that runs on cost has no C schedule.
+// A unit that runs on cost has no C schedule.
 #[derive(Clone, Copy)]
-pub enum Decided {
-    All,
-    NoCostSchedule(u64),
+pub struct NoCostSchedule {
+    pub unit: u64,
 }
 
 // Decides the units of supply on a day with these units running, and lays down their rows.
@@ -38,7 +36,7 @@ pub fn decide(
     links: &[u16],
     running: Units,
     rows: &mut [u64],
-) -> Decided
+) -> Result<(), NoCostSchedule>
     requires market_cells { MarketCells constraint sizes.supply supply.now }
     requires units_of { UnitsOf sizes.units (supply_rows sizes.supply supply.now) units.now }
     requires schedule_cells { ScheduleCells sizes.schedules schedules.now }
@@ -71,7 +69,7 @@ fn choose_rows(
     tests: Tests,
     k: usize,
     rows: &mut [u64],
-) -> Decided
+) -> Result<(), NoCostSchedule>
     requires schedule_cells { ScheduleCells m schedules.now }
     requires rows_linked { RowsLinked schedules.now m links.now }
     requires count_le_most_running { running.count ≤ most_running }
@@ -79,8 +77,7 @@ fn choose_rows(
     requires answer_width_in_bounds { k * answer_width ≤ length rows.old }
     ensures { ChoosesRows hour (schedule_rows m schedules.now) (units_of running) (take k tests.tests) k rows.new result }
 {
-    let mut i = 0;
-    while i < k {
+    for i in 0..k {
         let test = tests.tests[i];
         let day = running.day_kind(test.unit);
         if !choose_row(
@@ -92,11 +89,10 @@ fn choose_rows(
             day,
             &mut rows[i * answer::WIDTH..],
         ) {
-            return Decided::NoCostSchedule(test.unit);
+            return Err(NoCostSchedule { unit: test.unit });
         }
-        i += 1;
     }
-    Decided::All
+    Ok(())
 }
 
 // Chooses a unit's schedule and lays down its row; not where it runs on cost and has no C schedule.
@@ -106,13 +102,13 @@ fn choose_row(
     m: usize,
     links: &[u16],
     test: UnitTest,
-    day: DayKind,
+    day: Option<Kind>,
     row: &mut [u64],
 ) -> bool
     requires schedule_cells { ScheduleCells m schedules.now }
     requires rows_linked { RowsLinked schedules.now m links.now }
     requires answer_width_in_bounds { answer_width ≤ length row.old }
-    ensures { RowChosen hour (own test.unit (schedule_rows m schedules.now)) (kind_in day) test row.old row.new result }
+    ensures { RowChosen hour (own test.unit (schedule_rows m schedules.now)) day test row.old row.new result }
 {
     if lacks_cost(schedules, m, links, hour, test.unit, day) {
         return false;

@@ -10,5 +10,5 @@ mod standing;
 mod testing;
 mod units;
 
-pub use deciding::{Decided, decide};
+pub use deciding::{NoCostSchedule, decide};
 pub use naming::{list_suppliers, name_suppliers};

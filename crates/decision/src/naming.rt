@@ -19,11 +19,9 @@ pub fn list_suppliers(supply: &[u64], n: usize, units: &[u64], k: usize, supplie
     requires k_in_bounds { k ≤ length suppliers.old }
     ensures { take k suppliers.new ≡ map (supplier_of (supply_rows n supply.now)) (supply_units (supply_rows n supply.now)) }
 {
-    let mut i = 0;
-    while i < k {
+    for i in 0..k {
         let row = row_of(supply, n, units[i]);
         suppliers[i] = supplier(supply, row);
-        i += 1;
     }
 }
 
@@ -33,9 +31,7 @@ pub fn name_suppliers(suppliers: &[u64], k: usize, rows: &mut [u64])
     requires answer_width_in_bounds { k * answer_width ≤ length rows.old }
     ensures { RowsNamed suppliers.now k rows.old rows.new }
 {
-    let mut i = 0;
-    while i < k {
+    for i in 0..k {
         rows[i * WIDTH + SUPPLIER] = suppliers[i];
-        i += 1;
     }
 }

@@ -6,21 +6,22 @@ ghost use Rattle.tables.specs.promises.FlatRows.{supply_rows};
 use market::{add_amounts, clearing_row, eligible_supply, list_parties, need_of};
 use tables::ConstraintRow;
 
-// Short of the need; or the place of the row that clears, and how many parties there are.
+// A market that is not short of the need: the place of the row that clears, and how many parties there are.
 #[derive(Clone, Copy)]
-pub enum Standing {
-    Short,
-    Cleared(usize, usize),
+pub struct Cleared {
+    pub row: usize,
+    pub parties: usize,
 }
 
-// Finds how the market stands, and lays down its parties and the amount of each.
+// Finds how the market stands, nothing where it is short of the need, and lays down its parties and the
+// amount of each.
 pub fn stand(
     constraint: ConstraintRow,
     cells: &[u64],
     n: usize,
     parties: &mut [u64],
     amounts: &mut [u64],
-) -> Standing
+) -> Option<Cleared>
     requires market_cells { MarketCells constraint n cells.now }
     requires most_parties_in_bounds { most_parties < length parties.old }
     requires most_parties_in_bounds_2 { most_parties ≤ length amounts.old }
@@ -29,10 +30,13 @@ pub fn stand(
     let need = need_of(constraint.relief);
     let cutoff = constraint.cutoff;
     if eligible_supply(cells, n, cutoff) < need {
-        return Standing::Short;
+        return None;
     }
     let row = clearing_row(cells, n, cutoff, need);
     let count = list_parties(cells, n, parties);
     add_amounts(cells, n, cutoff, row, parties, count, amounts);
-    Standing::Cleared(row, count)
+    Some(Cleared {
+        row,
+        parties: count,
+    })
 }

@@ -7,12 +7,12 @@ ghost use Rattle.decision.specs.promises.Testing.{unit_test, InMarket};
 ghost use Rattle.decision.specs.promises.Units.{UnitFound, UnitsOf};
 ghost use Rattle.tables.specs.promises.FlatRows.{supply_rows};
 
-use crate::standing::{Standing, stand};
-use crate::units::{Wanted, has_wanted, row_of};
+use crate::standing::{Cleared, stand};
+use crate::units::{has_wanted, row_of};
 use market::{need_of, party};
 use numbers::place_of;
-use offers::supplier;
-use pivotal::{Answer, Finding, test};
+use offers::{is_eligible, is_relevant, supplier};
+use pivotal::{Finding, test};
 use tables::ConstraintRow;
 
 // The most units of a supply file.
@@ -23,7 +23,8 @@ const PARTIES: usize = 33;
 
 const AMOUNTS: usize = 32;
 
-// The letters of the verdicts: the test can't be performed, passed, failed.
+// The letters of the verdicts: the test can't be performed, passed, failed. Letters and no enum, since the
+// cells of an answer's row hold them.
 const U: u64 = 0x55;
 
 const P: u64 = 0x50;
@@ -68,7 +69,7 @@ fn test_each(
     constraint: ConstraintRow,
     cells: &[u64],
     n: usize,
-    standing: Standing,
+    standing: Option<Cleared>,
     parties: &[u64],
     amounts: &[u64],
     units: &[u64],
@@ -87,21 +88,20 @@ fn test_each(
         exposed: false,
     };
     let mut tests = [untested; UNITS];
-    let mut i = 0;
-    while i < k {
+    for i in 0..k {
         let test = test_unit(constraint, cells, n, standing, parties, amounts, units[i]);
         tests[i] = test;
-        i += 1;
     }
     Tests { tests }
 }
 
-// The test of a unit of the supply rows, in a market that stands as found.
+// The test of a unit of the supply rows, in a market that stands as found. Where the test can't be
+// performed, an eligible row exposes the unit.
 fn test_unit(
     constraint: ConstraintRow,
     cells: &[u64],
     n: usize,
-    standing: Standing,
+    standing: Option<Cleared>,
     parties: &[u64],
     amounts: &[u64],
     unit: u64,
@@ -113,20 +113,26 @@ fn test_unit(
 {
     let row = row_of(cells, n, unit);
     match standing {
-        Standing::Short => UnitTest {
+        None => UnitTest {
             unit,
             supplier: supplier(cells, row),
             verdict: U,
             left: 0,
-            exposed: has_wanted(cells, n, unit, row, constraint.cutoff, Wanted::Eligible),
+            exposed: has_wanted(
+                cells,
+                n,
+                unit,
+                row,
+                |row| is_eligible(cells, row, constraint.cutoff),
+            ),
         },
-        Standing::Cleared(clearing, count) => test_in_market(
+        Some(cleared) => test_in_market(
             constraint,
             cells,
             n,
-            clearing,
-            &parties[0..count],
-            &amounts[0..count],
+            cleared.row,
+            &parties[0..cleared.parties],
+            &amounts[0..cleared.parties],
             unit,
             row,
         ),
@@ -134,7 +140,7 @@ fn test_unit(
 }
 
 // The test of a unit in a market that the row at `clearing` clears, where `row` is the first of the
-// unit's.
+// unit's. Where it fails, a relevant row exposes the unit.
 fn test_in_market(
     constraint: ConstraintRow,
     cells: &[u64],
@@ -151,18 +157,24 @@ fn test_in_market(
     ensures { result ≡ unit_test constraint (supply_rows n cells.now) unit }
 {
     let own = supplier(cells, row);
-    let place = place_of(party(cells, row), parties);
-    let tested = test(amounts, place, need_of(constraint.relief));
-    match tested {
-        Answer::Tested(left, found) => match found {
+    // Every party is among the parties.
+    let place = place_of(party(cells, row), parties).unwrap_or(0);
+    let outcome = test(amounts, place, need_of(constraint.relief));
+    match outcome {
+        Some(tested) => match tested.found {
             Finding::Fails => {
-                let wanted = Wanted::Relevant(clearing);
-                let exposed = has_wanted(cells, n, unit, row, constraint.cutoff, wanted);
+                let exposed = has_wanted(
+                    cells,
+                    n,
+                    unit,
+                    row,
+                    |row| is_relevant(cells, row, clearing, constraint.cutoff),
+                );
                 UnitTest {
                     unit,
                     supplier: own,
                     verdict: F,
-                    left,
+                    left: tested.left,
                     exposed,
                 }
             }
@@ -170,12 +182,12 @@ fn test_in_market(
                 unit,
                 supplier: own,
                 verdict: P,
-                left,
+                left: tested.left,
                 exposed: false,
             },
         },
         // Never so: the amounts of so few parties are within the test's limits.
-        Answer::Refused => UnitTest {
+        None => UnitTest {
             unit,
             supplier: own,
             verdict: U,

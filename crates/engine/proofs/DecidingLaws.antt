@@ -1,10 +1,9 @@
 -- Laws of deciding: one for each way through the code, from what its steps answer to what was decided. Assumes nothing.
+use Rattle.std.specs.Prelude.{Err, Ok, None, Option, Result, Some, option_map}
 use Prim.Native.Nat.{ℕ, ◌*◌, ◌≤◌, ◌<◌}
-use mathlib.Core.Path.{◌≡◌, refl, sym, ◌∙◌, ap}
+use mathlib.Core.Path.{◌≡◌, refl, sym, ◌∙◌, ap, subst}
 use mathlib.Core.Bool.{Bool, true, false, not}
 use mathlib.Core.List.{List, [], ◌∷◌, map, append_assoc}
-use mathlib.Core.Option
-use mathlib.Core.Option.{Option, none, some}
 use native.Mathlib.Omega.{arith}
 use lib.Dec.{leb}
 use lib.ListN.{length, take}
@@ -21,10 +20,9 @@ use Rattle.supply.specs.Supply.{units}
 use Rattle.checking.specs.Files.{Files, constraint_of, supply_of, scheduled_of, groups_of, market_refusals, beside_refusals, check_refusals, check_refusal}
 use Rattle.checking.specs.promises.Curves.{priced_rows}
 use Rattle.base.proofs.FirstLaws.{first-of-one, first-of-here, first-of-later, first-of-part, first-of-rest}
+use Rattle.decision.specs.declared.deciding.NoCostSchedule.{NoCostSchedule}
 use Rattle.decision.specs.promises.Deciding.{DecidesRows}
 use Rattle.decision.specs.promises.Units.{UnitsOf}
-use Rattle.decision.specs.declared.deciding.Decided.{Decided}
-use Rattle.decision.specs.declared.deciding.Decided.TheVariants.{All as AllDecided, NoCostSchedule}
 use Rattle.outcome.proofs.StudyLetters.{decided-lettered}
 use Rattle.outcome.specs.Day.{RunningUnit, most_running, day_formed, earlier, would_run}
 use Rattle.outcome.specs.Decision.{decided, no_cost_schedule}
@@ -33,50 +31,52 @@ use Rattle.outcome.proofs.RowsToBytes.{rows-units}
 use Rattle.engine.specs.promises.Deciding.{RowsReady, Laid, Decides, DecidesFromRows, DecidesMarket, DecidesGroups, DecidesStudy}
 use Rattle.engine.specs.View.{view_of}
 use Rattle.engine.specs.declared.day.Day.{Day}
-use Rattle.engine.specs.declared.deciding.Deciding.{Deciding}
-use Rattle.engine.specs.declared.deciding.Deciding.TheVariants.{Rows, Refused}
+use Rattle.engine.specs.declared.deciding.DecidedRows.{DecidedRows}
 use Rattle.tables.proofs.RefusalLaws.{unless-broken, unless-kept}
 
 module _ (o : Option Refusal) (hour : ℕ) (rows : List AnswerRow) (running : List RunningUnit) (new : List ℕ) where
-  pub decides-refused : (e : Refusal) (r : Deciding) → o ≡ some e → r ≡ Refused e → Decides o hour rows running new r
+  pub decides-refused : (e : Refusal) (r : Result DecidedRows Refusal) → o ≡ Some e → r ≡ Err e → Decides o hour rows running new r
   decides-refused e r is g =
       record {
         refuses = λ x f. cc;
-        decides = λ h k f. let z : ◌≡◌ {A = ℕ} 0 1 = cc in absurd (omega arith);
+        decides = λ found f. let z : ◌≡◌ {A = ℕ} 0 1 = cc in absurd (omega arith);
       }
 
-  pub decides-laid : (h k : ℕ) (r : Deciding) → r ≡ Rows h k → Laid o hour rows running new h k → Decides o hour rows running new r
+  pub decides-laid :
+      (h k : ℕ) (r : Result DecidedRows Refusal) → r ≡ Ok (record { hour = h; count = k }) → Laid o hour rows running new h k →
+      Decides o hour rows running new r
   decides-laid h k r g laid =
       record {
         refuses = λ x f. let z : ◌≡◌ {A = ℕ} 0 1 = cc in absurd (omega arith);
         decides =
-            λ i j f.
-            let same : h ≡ i = cc in
-            let alike : k ≡ j = cc in
-            rw (← same, ← alike) laid;
+            λ found f.
+            let same : ◌≡◌ {A = DecidedRows} (record { hour = h; count = k }) found = cc in
+            subst (λ (d : DecidedRows). Laid o hour rows running new d.hour d.count) same laid;
       }
 
 -- as deciding answered
 module _
-    (c : ConstraintRow) (rows : List SupplyRow) (scheduled : List ScheduleRow) (running : List RunningUnit) (k : ℕ) (new : List ℕ) {r : Decided}
+    (c : ConstraintRow) (rows : List SupplyRow) (scheduled : List ScheduleRow) (running : List RunningUnit) (k : ℕ) (new : List ℕ) {r : Result (Unit {0}) NoCostSchedule}
     (decides : DecidesRows c rows scheduled running k new r)
   where
-    pub was-without-cost : {u : ℕ} → r ≡ NoCostSchedule u → no_cost_schedule c.hour rows scheduled running ≡ some u
+    pub was-without-cost : {u : NoCostSchedule} → r ≡ Err u → no_cost_schedule c.hour rows scheduled running ≡ Some u.unit
     was-without-cost {u} e = go (no_cost_schedule c.hour rows scheduled running) refl
       where
-        go : (o : Option ℕ) → no_cost_schedule c.hour rows scheduled running ≡ o → no_cost_schedule c.hour rows scheduled running ≡ some u
-        go none f = let z : ◌≡◌ {A = ℕ} 0 1 = cc (decides.answers, e, f) in absurd (omega arith)
-        go (some x) f = cc (decides.answers, e, f)
+        go : (o : Option ℕ) → no_cost_schedule c.hour rows scheduled running ≡ o → no_cost_schedule c.hour rows scheduled running ≡ Some u.unit
+        go None f = let z : ◌≡◌ {A = ℕ} 0 1 = cc (decides.answers, e, f) in absurd (omega arith)
+        go (Some x) f =
+            let same : ◌≡◌ {A = NoCostSchedule} (record { unit = x }) u = cc (decides.answers, e, f) in
+            f ∙ ap (λ (n : NoCostSchedule). Some n.unit) same
 
-    pub was-decided : r ≡ AllDecided → no_cost_schedule c.hour rows scheduled running ≡ none
+    pub was-decided : r ≡ Ok tt → no_cost_schedule c.hour rows scheduled running ≡ None
     was-decided e = go (no_cost_schedule c.hour rows scheduled running) refl
       where
-        go : (o : Option ℕ) → no_cost_schedule c.hour rows scheduled running ≡ o → no_cost_schedule c.hour rows scheduled running ≡ none
-        go none f = f
-        go (some x) f = let z : ◌≡◌ {A = ℕ} 0 1 = cc (decides.answers, e, f) in absurd (omega arith)
+        go : (o : Option ℕ) → no_cost_schedule c.hour rows scheduled running ≡ o → no_cost_schedule c.hour rows scheduled running ≡ None
+        go None f = f
+        go (Some x) f = let z : ◌≡◌ {A = ℕ} 0 1 = cc (decides.answers, e, f) in absurd (omega arith)
 
     pub rows-ready :
-        (us : List ℕ) → UnitsOf k rows us → k * answer_width ≤ length new → r ≡ AllDecided → (w : ℕ) → w ≡ would_run (take k us) running →
+        (us : List ℕ) → UnitsOf k rows us → k * answer_width ≤ length new → r ≡ Ok tt → (w : ℕ) → w ≡ would_run (take k us) running →
         w ≤ most_running → RowsReady running k new
     unfolding decided
     rows-ready us of-supply room e w counted few =
@@ -90,9 +90,9 @@ module _
         }
 
 -- the rows of the files: 20, 21, 22
-module _ (day : Day) (c : ConstraintRow) (supply : List SupplyRow) (scheduled : List ScheduleRow) (new : List ℕ) (r : Deciding) where
+module _ (day : Day) (c : ConstraintRow) (supply : List SupplyRow) (scheduled : List ScheduleRow) (new : List ℕ) (r : Result DecidedRows Refusal) where
   pub rows-earlier :
-      {t : Bool} → t ≡ earlier c.hour (view_of day).hour → t ≡ true → r ≡ Refused (bare_refusal 20) → DecidesFromRows day c supply scheduled new r
+      {t : Bool} → t ≡ earlier c.hour (view_of day).hour → t ≡ true → r ≡ Err (bare_refusal 20) → DecidesFromRows day c supply scheduled new r
   unfolding rows_refusals
   rows-earlier e f g =
       decides-refused _ _ _ _ new (bare_refusal 20) r
@@ -100,26 +100,26 @@ module _ (day : Day) (c : ConstraintRow) (supply : List SupplyRow) (scheduled : 
       g
 
   module _ {t : Bool} (e : t ≡ earlier c.hour (view_of day).hour) (timely : t ≡ false) where
-    in-time : unless (not (earlier c.hour (view_of day).hour)) 20 ≡ none
+    in-time : unless (not (earlier c.hour (view_of day).hour)) 20 ≡ None
     in-time = unless-kept (not (earlier c.hour (view_of day).hour)) 20 (ap not (sym e ∙ timely))
 
     pub rows-without-cost :
-        (u : ℕ) → no_cost_schedule c.hour supply scheduled (view_of day).running ≡ some u → r ≡ Refused (refused 21 Schedules u) →
+        (u : ℕ) → no_cost_schedule c.hour supply scheduled (view_of day).running ≡ Some u → r ≡ Err (refused 21 Schedules u) →
         DecidesFromRows day c supply scheduled new r
     unfolding rows_refusals
     rows-without-cost u f g =
         decides-refused _ _ _ _ new (refused 21 Schedules u) r
-        (first-of-later _ _ in-time ∙ first-of-here _ _ _ (ap (Option.map (refused 21 Schedules)) f))
+        (first-of-later _ _ in-time ∙ first-of-here _ _ _ (ap (option_map (refused 21 Schedules)) f))
         g
 
-    module _ (on-cost : no_cost_schedule c.hour supply scheduled (view_of day).running ≡ none) (w : ℕ) (counted : w ≡ would_run (units supply) (view_of day).running) where
+    module _ (on-cost : no_cost_schedule c.hour supply scheduled (view_of day).running ≡ None) (w : ℕ) (counted : w ≡ would_run (units supply) (view_of day).running) where
       over-limit-left : first_of (rows_refusals (view_of day) c supply scheduled) ≡ too_many_running (view_of day) (units supply)
       unfolding rows_refusals
       over-limit-left =
-          first-of-later _ _ in-time ∙ first-of-later _ _ (ap (Option.map (refused 21 Schedules)) on-cost)
+          first-of-later _ _ in-time ∙ first-of-later _ _ (ap (option_map (refused 21 Schedules)) on-cost)
           ∙ first-of-one (too_many_running (view_of day) (units supply))
 
-      pub rows-over-limit : most_running < w → r ≡ Refused (bare_refusal 22) → DecidesFromRows day c supply scheduled new r
+      pub rows-over-limit : most_running < w → r ≡ Err (bare_refusal 22) → DecidesFromRows day c supply scheduled new r
       unfolding too_many_running
       rows-over-limit h g =
           decides-refused _ _ _ _ new (bare_refusal 22) r
@@ -128,7 +128,7 @@ module _ (day : Day) (c : ConstraintRow) (supply : List SupplyRow) (scheduled : 
           g
 
       pub rows-laid :
-          w ≤ most_running → (k : ℕ) → r ≡ Rows c.hour k → answer_rows k new ≡ decided c supply scheduled (view_of day).running supply →
+          w ≤ most_running → (k : ℕ) → r ≡ Ok (record { hour = c.hour; count = k }) → answer_rows k new ≡ decided c supply scheduled (view_of day).running supply →
           RowsReady (view_of day).running k new → DecidesFromRows day c supply scheduled new r
       unfolding too_many_running
       rows-laid h k g laid ready =
@@ -144,29 +144,29 @@ module _ (day : Day) (c : ConstraintRow) (supply : List SupplyRow) (scheduled : 
 
 -- schedules, for a market that passed
 module _
-    (day : Day) (c : ConstraintRow) (supply : List SupplyRow) (waiting : Option Refusal) (h k new : List ℕ) (r : Deciding)
+    (day : Day) (c : ConstraintRow) (supply : List SupplyRow) (waiting : Option Refusal) (h k new : List ℕ) (r : Result DecidedRows Refusal)
   where
     pub schedules-refused :
-        (e : Refusal) → first_of (beside_refusals (waiting ∷ []) c.hour (units supply) h k) ≡ some e → r ≡ Refused e →
+        (e : Refusal) → first_of (beside_refusals (waiting ∷ []) c.hour (units supply) h k) ≡ Some e → r ≡ Err e →
         DecidesMarket day c supply waiting h k new r
     schedules-refused e is g =
         decides-refused _ _ _ _ new e r (first-of-part (beside_refusals (waiting ∷ []) c.hour (units supply) h k) _ e is) g
 
     pub schedules-decided :
-        first_of (beside_refusals (waiting ∷ []) c.hour (units supply) h k) ≡ none → (rows : List ScheduleRow) → rows ≡ priced_rows h k →
+        first_of (beside_refusals (waiting ∷ []) c.hour (units supply) h k) ≡ None → (rows : List ScheduleRow) → rows ≡ priced_rows h k →
         DecidesFromRows day c supply rows new r → DecidesMarket day c supply waiting h k new r
     schedules-decided ok rows is decides =
         rw (first-of-rest (beside_refusals (waiting ∷ []) c.hour (units supply) h k) (rows_refusals (view_of day) c supply (priced_rows h k)) ok)
         (rw is at decides)
 
 -- all files
-module _ (day : Day) (f : Files) (new : List ℕ) (r : Deciding) where
-  pub ill-formed : day_formed (view_of day) ≡ false → r ≡ Refused (bare_refusal 24) → DecidesStudy day f new r
+module _ (day : Day) (f : Files) (new : List ℕ) (r : Result DecidedRows Refusal) where
+  pub ill-formed : day_formed (view_of day) ≡ false → r ≡ Err (bare_refusal 24) → DecidesStudy day f new r
   unfolding decision_refusal decision_refusals
   ill-formed e g = decides-refused _ _ _ _ new (bare_refusal 24) r (first-of-here _ _ _ (unless-broken (day_formed (view_of day)) 24 e)) g
 
   module _ (formed : day_formed (view_of day) ≡ true) where
-    pub market-refused : (e : Refusal) → check_refusal f ≡ some e → r ≡ Refused e → DecidesStudy day f new r
+    pub market-refused : (e : Refusal) → check_refusal f ≡ Some e → r ≡ Err e → DecidesStudy day f new r
     unfolding decision_refusal decision_refusals check_refusal
     market-refused e is g =
         decides-refused _ _ _ _ new e r
@@ -174,7 +174,7 @@ module _ (day : Day) (f : Files) (new : List ℕ) (r : Deciding) where
         g
 
     pub market-decided :
-        first_of (market_refusals f.constraint f.supply) ≡ none → (c : ConstraintRow) → c ≡ constraint_of f.constraint →
+        first_of (market_refusals f.constraint f.supply) ≡ None → (c : ConstraintRow) → c ≡ constraint_of f.constraint →
         (supply : List SupplyRow) → supply ≡ supply_of f.supply → DecidesGroups day c supply f.schedules f.curves f.parents new r →
         DecidesStudy day f new r
     unfolding decision_refusal decision_refusals check_refusals study_rows scheduled_of groups_of

@@ -1,10 +1,11 @@
 -- From a market decided by groups to the study of the supply file as it was written: cells by groups are such as deciding asks for,
 -- refusals are the same, and rows show the suppliers of the supply file. Assumes nothing.
+use Rattle.std.specs.Prelude.{None, Option, Result, Some}
+use Rattle.engine.specs.declared.deciding.DecidedRows.{DecidedRows}
 use Prim.Native.Nat.{ℕ, ◌≤◌}
 use mathlib.Core.Path.{◌≡◌, refl, sym, ◌∙◌, ap}
 use mathlib.Core.Logic.{⊎_elim}
 use mathlib.Core.List.{List, [], ◌∷◌, ◌++◌, map, append_assoc}
-use mathlib.Core.Option.{Option, none, some}
 use native.Mathlib.Omega.{arith}
 use lib.ListN.{length, take, length-map}
 use Rattle.base.specs.Search.{first_of, All}
@@ -17,7 +18,6 @@ use Rattle.tables.specs.Rows.{SupplyRow}
 use Rattle.tables.specs.declared.answer.AnswerRow.{AnswerRow}
 use Rattle.tables.specs.declared.constraint.ConstraintRow.{ConstraintRow}
 use Rattle.tables.specs.declared.files.File.TheVariants.{Parents}
-use Rattle.tables.specs.declared.files.Reading.{Reading}
 use Rattle.tables.specs.declared.files.Refusal.{Refusal}
 use Rattle.tables.specs.promises.FlatRows.{supply_rows}
 use Rattle.cells.specs.promises.Views.{answer_rows}
@@ -46,13 +46,12 @@ use Rattle.outcome.proofs.RowsToBytes.{shown_unit, rows-units}
 use Rattle.engine.specs.promises.Deciding.{RowsReady, DecidesMarket, DecidesGroups, ShownListed}
 use Rattle.engine.specs.View.{view_of}
 use Rattle.engine.specs.declared.day.Day.{Day}
-use Rattle.engine.specs.declared.deciding.Deciding.{Deciding}
 use Rattle.engine.proofs.StudyCells.{parties-suppliers}
 
 -- the refusal that an answer goes by
 waits : (o : Option Refusal) (m : ℕ) → refusal_in (rows_unless o m) ≡ o
-waits none m = refl
-waits (some x) m = refl
+waits None m = refl
+waits (Some x) m = refl
 
 -- what checking parents asks of the rows of supply
 pub supplier-cells : (c : ConstraintRow) (n : ℕ) (cells : List ℕ) → MarketCells c n cells → SupplierCells n cells
@@ -80,17 +79,17 @@ regrouped : {A : Type 0} (a b c d e : List A) → (a ++ (b ++ (c ++ d))) ++ e �
 regrouped a b c d e =
     rw (append_assoc a (b ++ (c ++ d)) e, append_assoc b (c ++ d) e, append_assoc c d e, append_assoc a b (c ++ (d ++ e)))
 
-module _ (p : List ℕ) (n : ℕ) (old new : List ℕ) {q : Reading} (checked : ParentsChecked p n old new q) where
+module _ (p : List ℕ) (n : ℕ) (old new : List ℕ) {q : Result ℕ Refusal} (checked : ParentsChecked p n old new q) where
   abbrev waiting : Option Refusal
   waiting = first_of (alone_refusals Parents p)
 
   -- a property of rows that grouping keeps holds of the rows now
-  now-has : (P : List SupplyRow → Type 0) → P (supply_rows n old) → (waiting ≡ none → P (grouped (parents_of p) (supply_rows n old))) → P (supply_rows n new)
+  now-has : (P : List SupplyRow → Type 0) → P (supply_rows n old) → (waiting ≡ None → P (grouped (parents_of p) (supply_rows n old))) → P (supply_rows n new)
   now-has P before after = go waiting refl
     where
       go : (o : Option Refusal) → waiting ≡ o → P (supply_rows n new)
-      go none e = rw (checked.by-groups e) (after e)
-      go (some x) e = rw (checked.as_before x e) before
+      go None e = rw (checked.by-groups e) (after e)
+      go (Some x) e = rw (checked.as_before x e) before
 
   pub same_units : units (supply_rows n new) ≡ units (supply_rows n old)
   same_units = now-has (λ (rs : List SupplyRow). units rs ≡ units (supply_rows n old)) refl (λ _. grouped-units (parents_of p) (supply_rows n old))
@@ -159,7 +158,7 @@ module _ (p : List ℕ) (n : ℕ) (old new : List ℕ) {q : Reading} (checked : 
   module _ (d : DayView) (c : ConstraintRow) (h k : List ℕ) where
     none-waits :
         first_of (beside_refusals (alone_refusals Parents p) c.hour (units (supply_rows n old)) h k ++ rows_refusals d c (supply_rows n old) (priced_rows h k))
-        ≡ none → waiting ≡ none
+        ≡ None → waiting ≡ None
     unfolding beside_refusals
     none-waits e =
         let beside = (first-of-parts-none _ (rows_refusals d c (supply_rows n old) (priced_rows h k)) e).0 in
@@ -168,7 +167,7 @@ module _ (p : List ℕ) (n : ℕ) (old new : List ℕ) {q : Reading} (checked : 
         (first-of-parts-none (alone_refusals Parents p) _ further).0
 
   module _
-      (day : Day) (c : ConstraintRow) (h k rows : List ℕ) (r : Deciding)
+      (day : Day) (c : ConstraintRow) (h k rows : List ℕ) (r : Result DecidedRows Refusal)
       (decides : DecidesMarket day c (supply_rows n new) (refusal_in q) h k rows r)
     where
       abbrev decided_by : List SupplyRow → List SupplyRow → List AnswerRow
@@ -187,16 +186,16 @@ module _ (p : List ℕ) (n : ℕ) (old new : List ℕ) {q : Reading} (checked : 
       by-shown shown stands =
           record {
             refuses = λ e g. sym (same-refusal (view_of day) c h k) ∙ decides.refuses e g;
-            decides = λ i j g.
-                let laid = decides.decides i j g in
+            decides = λ found g.
+                let laid = decides.decides found g in
                 let accepted = sym (same-refusal (view_of day) c h k) ∙ laid.accepted in
                 let by-groups = checked.by-groups (none-waits (view_of day) c h k accepted) in
-                let (is, long) = stands j by-groups laid.laid laid.ready in
+                let (is, long) = stands found.count by-groups laid.laid laid.ready in
                 record {
                   accepted = accepted;
                   at-hour = laid.at-hour;
                   laid = is;
-                  ready = ready-too j is long by-groups laid.laid laid.ready;
+                  ready = ready-too found.count is long by-groups laid.laid laid.ready;
                 };
           }
         where

@@ -1,11 +1,11 @@
 -- Laws of the preview: a unit's row sought among rows in cells, and one for each way through the code, from what deciding answers to
 -- what is told and shown, and demand 3 from there. Assumes nothing.
+use Rattle.std.specs.Prelude.{Err, None, Some}
 use Prim.Native.Nat.{ℕ, ◌+◌, ◌≤◌, ◌<◌}
 use mathlib.Core.Path.{◌≡◌, refl, ◌∙◌, ap}
 use mathlib.Core.Logic.{⊎_elim}
 use mathlib.Core.Bool.{true, false}
 use mathlib.Core.List.{List}
-use mathlib.Core.Option.{none, some}
 use native.Mathlib.Omega.{arith}
 use lib.ListN.{drop}
 use borrow.Author.Tests.{eq-eqb, ne_eqb}
@@ -29,7 +29,6 @@ use Rattle.outcome.proofs.RefusalOrder.{refused-both, not-supplied-last}
 use Rattle.engine.specs.Previewing.{Previews, PreviewsRight}
 use Rattle.engine.specs.View.{view_of}
 use Rattle.engine.specs.declared.day.Day.{Day}
-use Rattle.engine.specs.declared.previewing.Preview.TheVariants.{Refused}
 use Rattle.engine.specs.declared.previewing.Previewed.{Previewed}
 use Rattle.engine.specs.promises.Answering.{preview_as, looked_at}
 
@@ -38,12 +37,9 @@ module _ (u k : ℕ) (cells : List ℕ) where
   pub record Seeking (i : ℕ) : Type 0 where
     pub passed : row_for u (answer_rows k cells) ≡ row_for u (drop i (answer_rows k cells))
 
-  pub seeking-none : Seeking 0
-  seeking-none = record { passed = refl }
-
   module _ (i : ℕ) (s : Seeking i) where
     module _ (here : i < k) where
-      pub seeking-here : (answer_at cells i).unit ≡ u → row_for u (answer_rows k cells) ≡ some (answer_at cells i)
+      pub seeking-here : (answer_at cells i).unit ≡ u → row_for u (answer_rows k cells) ≡ Some (answer_at cells i)
       unfolding row_for
       seeking-here e = s.passed ∙ rw (answer-next k cells i here) (find-here _ (answer_at cells i) _ (eq-eqb _ u e))
 
@@ -54,19 +50,19 @@ module _ (u k : ℕ) (cells : List ℕ) where
             passed = s.passed ∙ rw (answer-next k cells i here) (find-later _ (answer_at cells i) _ (ne_eqb _ u n));
           }
 
-    pub seeking-over : k ≤ i → row_for u (answer_rows k cells) ≡ none
+    pub seeking-over : k ≤ i → row_for u (answer_rows k cells) ≡ None
     unfolding row_for
     seeking-over h = s.passed ∙ rw (drop-end i (answer_rows k cells) (rw (answer-length k cells) h)) (find_none _)
 
 -- what deciding refuses, and what is shown once the rows are decided
 module _ (day : Day) (f : Files) (u : ℕ) (r : Previewed) where
-  pub preview-refused : (e : Refusal) → decision_refusal (view_of day) f ≡ some e → r ≡ looked_at day (Refused e) → Previews day f u r
+  pub preview-refused : (e : Refusal) → decision_refusal (view_of day) f ≡ Some e → r ≡ looked_at day (Err e) → Previews day f u r
   unfolding previewed previewing
   preview-refused e is g =
       let refused = refused-both (view_of day) f u e is in
       rw g (record { tells = rw refused; shows = rw refused; very-day = refl })
 
-  module _ (ok : decision_refusal (view_of day) f ≡ none) (rows : List AnswerRow) (laid : rows ≡ study_rows (view_of day) f) (g : r ≡ looked_at day (preview_as (row_for u rows))) where
+  module _ (ok : decision_refusal (view_of day) f ≡ None) (rows : List AnswerRow) (laid : rows ≡ study_rows (view_of day) f) (g : r ≡ looked_at day (preview_as (row_for u rows))) where
     row-shown : any (of_unit u) (supply_of f.supply) ≡ true → Previews day f u r
     unfolding previewed previewing not_supplied
     row-shown e =

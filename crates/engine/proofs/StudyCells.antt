@@ -1,16 +1,14 @@
 -- From files that passed, and the cells that were laid down, to what deciding their rows asks. Assumes nothing.
+use Rattle.std.specs.Prelude.{Err, None, Ok, Option, Result, Some}
 use Prim.Native.Nat.{ℕ, ◌≤◌, ◌<◌}
 use mathlib.Core.Path.{◌≡◌, refl, sym, ◌∙◌}
 use mathlib.Core.List.{List, [], ◌∷◌}
-use mathlib.Core.Option.{Option, none, some}
 use native.Mathlib.Omega.{arith}
 use lib.ListN.{length}
 use Rattle.base.specs.Search.{first_of}
 use Rattle.base.proofs.Elements.{all-mem}
 use Rattle.tables.specs.Rows.{SupplyRow}
 use Rattle.tables.specs.declared.files.File.TheVariants.{Supply, Schedules, Curves}
-use Rattle.tables.specs.declared.files.Reading.{Reading}
-use Rattle.tables.specs.declared.files.Reading.TheVariants.{Rows as RowsRead, Refused as NotRead}
 use Rattle.tables.specs.declared.files.Refusal.{Refusal}
 use Rattle.links.specs.promises.Links.{RowsLinked}
 use Rattle.supply.specs.Supply.{most_units, suppliers}
@@ -22,8 +20,6 @@ use Rattle.checking.specs.Files.{constraint_of, supply_of, schedules_of, or_head
 use Rattle.checking.specs.promises.Curves.{priced_rows}
 use Rattle.curves.proofs.PricedLaws.{priced-count, priced-permitted}
 use Rattle.checking.specs.declared.market.Market.{Market}
-use Rattle.checking.specs.declared.market.MarketCheck.{MarketCheck}
-use Rattle.checking.specs.declared.market.MarketCheck.TheVariants.{Passed}
 use Rattle.checking.proofs.MarketLaws.{told, market-kept}
 use Rattle.checking.proofs.RuleLaws.{rows-answered, refused-answered}
 use Rattle.base.proofs.Searches.{first-of-none}
@@ -44,8 +40,8 @@ unfolding parties suppliers party
 parties-suppliers rows = refl
 
 -- the cells of a market that passed
-module _ (c s supply us : List ℕ) {q : MarketCheck} (checked : MarketChecked c s supply us q) (m : Market) (e : q ≡ Passed m) where
-  pub market-none : first_of (market_refusals c s) ≡ none
+module _ (c s supply us : List ℕ) {q : Result Market Refusal} (checked : MarketChecked c s supply us q) (m : Market) (e : q ≡ Ok m) where
+  pub market-none : first_of (market_refusals c s) ≡ None
   market-none = (told c s supply us checked m e).0
 
   pub market-constraint : m.constraint ≡ constraint_of c
@@ -84,17 +80,17 @@ module _ (c s supply us : List ℕ) {q : MarketCheck} (checked : MarketChecked c
 
 -- the cells of schedules that passed, with curves
 module _
-    (w : Option Refusal) (hour : ℕ) (us h k cells links : List ℕ) {p : Reading}
+    (w : Option Refusal) (hour : ℕ) (us h k cells links : List ℕ) {p : Result ℕ Refusal}
     (checked : SchedulesChecked (beside_refusals (w ∷ []) hour us h k) (priced_rows h k) cells links p)
   where
-    pub schedules-refuse : (x : Refusal) → p ≡ NotRead x → first_of (beside_refusals (w ∷ []) hour us h k) ≡ some x
+    pub schedules-refuse : (x : Refusal) → p ≡ Err x → first_of (beside_refusals (w ∷ []) hour us h k) ≡ Some x
     schedules-refuse x f = refused-answered _ (length (priced_rows h k)) (sym checked.answers ∙ f)
 
-    module _ (n : ℕ) (f : p ≡ RowsRead n) where
-      rows_told : (first_of (beside_refusals (w ∷ []) hour us h k) ≡ none) × (n ≡ length (priced_rows h k))
+    module _ (n : ℕ) (f : p ≡ Ok n) where
+      rows_told : (first_of (beside_refusals (w ∷ []) hour us h k) ≡ None) × (n ≡ length (priced_rows h k))
       rows_told = rows-answered _ (length (priced_rows h k)) (sym checked.answers ∙ f)
 
-      pub schedules-none : first_of (beside_refusals (w ∷ []) hour us h k) ≡ none
+      pub schedules-none : first_of (beside_refusals (w ∷ []) hour us h k) ≡ None
       schedules-none = rows_told.0
 
       pub schedules-rows : schedule_rows n cells ≡ priced_rows h k
@@ -103,7 +99,7 @@ module _
       pub schedules-linked : RowsLinked cells n links
       schedules-linked = rw rows_told.1 (checked.kept schedules-none).linked
 
-      read : (refusal Schedules h ≡ none) × (refusal Curves (or_header Curves k) ≡ none)
+      read : (refusal Schedules h ≡ None) × (refusal Curves (or_header Curves k) ≡ None)
       unfolding beside_refusals schedules_refusals curves_refusals alone_refusals
       read =
           let (of-schedules, behind) = first-of-parts-none (schedules_refusals us h) _ schedules-none in

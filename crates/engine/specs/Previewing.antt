@@ -1,7 +1,6 @@
 -- Document 02, F-2: what a preview promises, for any day, any files and any unit's number. Assumes nothing.
-use Rattle.std.specs.Prelude.{ℕ, ◌≡◌, ◌↔◌}
-use Rattle.std.proofs.Math.Option.{Option, none, some}
-use Rattle.tables.specs.Refusals.{bare_refusal}
+use Rattle.std.specs.Prelude.{ℕ, ◌≡◌, ◌↔◌, Err, None, Ok, Option, Result, Some}
+use Rattle.tables.specs.Refusals.{told_by}
 use Rattle.tables.specs.declared.answer.AnswerRow.{AnswerRow}
 use Rattle.tables.specs.declared.files.Refusal.{Refusal}
 use Rattle.checking.specs.Files.{Files}
@@ -9,21 +8,15 @@ use Rattle.outcome.specs.Preview.{previewed}
 use Rattle.outcome.specs.Right.{RightFor}
 use Rattle.engine.specs.View.{view_of}
 use Rattle.engine.specs.declared.day.Day.{Day}
-use Rattle.engine.specs.declared.previewing.Preview.{Preview}
-use Rattle.engine.specs.declared.previewing.Preview.TheVariants.{Row, Refused}
 use Rattle.engine.specs.declared.previewing.Previewed.{Previewed}
 
--- document 01's number, file and place for each answer, and the row that is shown
-abbrev pub preview_told : Preview → Refusal
-preview_told (Row r) = bare_refusal 0
-preview_told (Refused r) = r
-
-abbrev pub row_shown : Preview → Option AnswerRow
-row_shown (Row r) = some r
-row_shown (Refused r) = none
+-- the row that is shown
+abbrev pub row_shown : Result AnswerRow Refusal → Option AnswerRow
+row_shown (Ok r) = Some r
+row_shown (Err r) = None
 
 pub record Previews (day : Day) (f : Files) (u : ℕ) (r : Previewed) : Type 0 where
-  pub tells : preview_told r.answer ≡ (previewed (view_of day) f u).told
+  pub tells : told_by r.answer ≡ (previewed (view_of day) f u).told
   pub shows : row_shown r.answer ≡ (previewed (view_of day) f u).row
   -- the day that comes back is the very one that was given, the places that aren't counted too
   pub very-day : r.day ≡ day
@@ -31,4 +24,4 @@ pub record Previews (day : Day) (f : Files) (u : ℕ) (r : Previewed) : Type 0 w
 -- demand 3 on the row: lay any row beside the one that is shown, and the two are equal exactly when it is right for the unit
 abbrev pub PreviewsRight : Day → Files → ℕ → Previewed → Type 0
 PreviewsRight day f u r =
-    (preview_told r.answer).number ≡ 0 → (row : AnswerRow) → (row_shown r.answer ≡ some row) ↔ RightFor (view_of day) f u row
+    (told_by r.answer).number ≡ 0 → (row : AnswerRow) → (row_shown r.answer ≡ Some row) ↔ RightFor (view_of day) f u row

@@ -1,17 +1,9 @@
 -- Document 01, "The day": "Two days are compared by their hour and running units." A day's view is these two. Assumes
 -- nothing: a day that counts more units than it has places is seen with as many as it counts, and so as the ill-formed day
 -- that it is.
-use Rattle.std.specs.Prelude.{ℕ}
-use Rattle.std.proofs.Math.Option.{Option, none, some}
 use Rattle.outcome.specs.Day.{DayView}
 use Rattle.running.specs.View.{units_of}
 use Rattle.engine.specs.declared.day.Day.{Day}
-use Rattle.engine.specs.declared.day.LastHour.{LastHour}
-use Rattle.engine.specs.declared.day.LastHour.TheVariants.{Fresh, At}
-
-abbrev pub hour_of : LastHour → Option ℕ
-hour_of Fresh = none
-hour_of (At h) = some h
 
 unfoldable pub view_of : Day → DayView
-view_of d = record { hour = hour_of d.hour; running = units_of d.units }
+view_of d = record { hour = d.hour; running = units_of d.units }

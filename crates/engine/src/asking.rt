@@ -2,9 +2,9 @@
 // Assumes nothing of it.
 ghost use Rattle.std.specs.Prelude.{◌≡◌};
 ghost use Rattle.outcome.specs.Day.{hour_in_range, day_formed, earlier};
-ghost use Rattle.engine.specs.View.{hour_of, view_of};
+ghost use Rattle.engine.specs.View.{view_of};
 
-use crate::day::{Day, LastHour};
+use crate::day::Day;
 use tables::{File, first_column, in_column};
 
 impl Day {
@@ -27,18 +27,18 @@ impl Day {
     {
         let last = self.hour;
         match last {
-            LastHour::Fresh => false,
-            LastHour::At(h) => hour < h,
+            None => false,
+            Some(h) => hour < h,
         }
     }
 }
 
 // An hour has the range of its column in the constraint file.
-fn hour_in_range(hour: LastHour) -> bool
-    ensures { result ≡ hour_in_range (hour_of hour) }
+fn hour_in_range(hour: Option<u64>) -> bool
+    ensures { result ≡ hour_in_range hour }
 {
     match hour {
-        LastHour::Fresh => true,
-        LastHour::At(h) => in_column(first_column(File::Constraint), h),
+        None => true,
+        Some(h) => in_column(first_column(File::Constraint), h),
     }
 }

@@ -6,16 +6,10 @@ ghost use Rattle.engine.specs.View.{view_of};
 
 use running::Units;
 
-// The hour of the last accepted study, none in a fresh day.
-#[derive(Clone, Copy)]
-pub enum LastHour {
-    Fresh,
-    At(u64),
-}
-
+// The hour is that of the last accepted study, none in a fresh day.
 #[derive(Clone, Copy)]
 pub struct Day {
-    pub hour: LastHour,
+    pub hour: Option<u64>,
     pub units: Units,
 }
 
@@ -29,7 +23,7 @@ impl Day {
         ensures most { Day.UNITS ≡ most_running }
     {
         Day {
-            hour: LastHour::Fresh,
+            hour: None,
             units: Units::none(),
         }
     }

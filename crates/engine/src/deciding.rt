@@ -1,7 +1,7 @@
 // Deciding a study: every refusal but 10, and where there is none the rows of the answer, laid down in a
 // lent run. Nothing is written to a file, and the day stays as it is. Assumes nothing of the files or
 // the day.
-ghost use Rattle.std.specs.Prelude.{◌≡◌, true, ◌*◌, ◌≤◌, length};
+ghost use Rattle.std.specs.Prelude.{◌≡◌, true, ◌*◌, ◌≤◌, length, Err};
 ghost use Rattle.tables.specs.declared.files.File.TheVariants.{Schedules};
 ghost use Rattle.tables.specs.Refusals.{refused, bare_refusal};
 ghost use Rattle.tables.specs.promises.FlatRows.{supply_rows, schedule_rows};
@@ -23,17 +23,17 @@ use crate::day::Day;
 use crate::refusals::{EARLIER_HOUR, ILL_FORMED, NO_COST_SCHEDULE, TOO_MANY_RUNNING};
 use cells::Sizes;
 use checking::{
-    Market, MarketCheck, SCHEDULE_CELLS, SUPPLY_CELLS, UNITS_LENGTH, check_market, check_parents,
+    Market, SCHEDULE_CELLS, SUPPLY_CELLS, UNITS_LENGTH, check_market, check_parents,
     check_schedules,
 };
-use decision::{Decided, list_suppliers, name_suppliers};
-use tables::{ConstraintRow, File, Reading, Refusal};
+use decision::{list_suppliers, name_suppliers};
+use tables::{ConstraintRow, File, Refusal};
 
-// The hour of the study and how many rows were laid down, or why it is refused.
+// The hour of the study, and how many rows were laid down.
 #[derive(Clone, Copy)]
-pub enum Deciding {
-    Rows(u64, usize),
-    Refused(Refusal),
+pub struct DecidedRows {
+    pub hour: u64,
+    pub count: usize,
 }
 
 impl Day {
@@ -46,7 +46,7 @@ impl Day {
         curves: &[u8],
         parents: &[u8],
         rows: &mut [u64],
-    ) -> Deciding
+    ) -> Result<DecidedRows, Refusal>
         requires { most_units * answer_width ≤ length rows.old }
         ensures { DecidesStudy self (files constraint.now supply.now schedules.now curves.now parents.now) rows.new result }
     {
@@ -66,28 +66,23 @@ impl Day {
         curves: &[u8],
         parents: &[u8],
         rows: &mut [u64],
-    ) -> Deciding
+    ) -> Result<DecidedRows, Refusal>
         requires self_value { day_formed (view_of self) ≡ true }
         requires answer_width_in_bounds { most_units * answer_width ≤ length rows.old }
         ensures { DecidesStudy self (files constraint.now supply.now schedules.now curves.now parents.now) rows.new result }
     {
         let mut supply_cells = [0u64; SUPPLY_CELLS];
         let mut units = [0u64; UNITS_LENGTH];
-        let check = check_market(constraint, supply, &mut supply_cells, &mut units);
-        match check {
-            MarketCheck::Refused(refusal) => Deciding::Refused(refusal),
-            MarketCheck::Passed(market) => {
-                self.decide_groups(
-                    market,
-                    &mut supply_cells,
-                    &units,
-                    schedules,
-                    curves,
-                    parents,
-                    rows,
-                )
-            }
-        }
+        let market = check_market(constraint, supply, &mut supply_cells, &mut units)?;
+        self.decide_groups(
+            market,
+            &mut supply_cells,
+            &units,
+            schedules,
+            curves,
+            parents,
+            rows,
+        )
     }
 
     // Then the market that passed, by the groups of parents where there are any. The answer shows the
@@ -101,7 +96,7 @@ impl Day {
         curves: &[u8],
         parents: &[u8],
         rows: &mut [u64],
-    ) -> Deciding
+    ) -> Result<DecidedRows, Refusal>
         requires units_value { units_formed (units_of self.units) ≡ true }
         requires market_cells { MarketCells market.constraint market.rows supply.old }
         requires units_of { UnitsOf market.units (supply_rows market.rows supply.old) units.now }
@@ -121,13 +116,13 @@ impl Day {
     fn decide_market(
         self,
         market: Market,
-        parents: Reading,
+        parents: Result<usize, Refusal>,
         supply: &[u64],
         units: &[u64],
         schedules: &[u8],
         curves: &[u8],
         rows: &mut [u64],
-    ) -> Deciding
+    ) -> Result<DecidedRows, Refusal>
         requires units_value { units_formed (units_of self.units) ≡ true }
         requires market_cells { MarketCells market.constraint market.rows supply.now }
         requires units_of { UnitsOf market.units (supply_rows market.rows supply.now) units.now }
@@ -136,21 +131,16 @@ impl Day {
     {
         let mut cells = [0u64; SCHEDULE_CELLS];
         let mut links = [0u16; links::LENGTH];
-        let reading = check_schedules(
+        let count = check_schedules(
             market, parents, schedules, curves, units, &mut cells, &mut links,
-        );
-        match reading {
-            Reading::Refused(refusal) => Deciding::Refused(refusal),
-            Reading::Rows(count) => {
-                let sizes = Sizes {
-                    supply: market.rows,
-                    schedules: count,
-                    units: market.units,
-                };
-                let constraint = market.constraint;
-                self.decide_rows(constraint, sizes, supply, units, &cells, &links, rows)
-            }
-        }
+        )?;
+        let sizes = Sizes {
+            supply: market.rows,
+            schedules: count,
+            units: market.units,
+        };
+        let constraint = market.constraint;
+        self.decide_rows(constraint, sizes, supply, units, &cells, &links, rows)
     }
 
     // Then the rows: 20, 21 and 22.
@@ -163,7 +153,7 @@ impl Day {
         schedules: &[u64],
         links: &[u16],
         rows: &mut [u64],
-    ) -> Deciding
+    ) -> Result<DecidedRows, Refusal>
         requires units_value { units_formed (units_of self.units) ≡ true }
         requires market_cells { MarketCells constraint sizes.supply supply.now }
         requires units_of { UnitsOf sizes.units (supply_rows sizes.supply supply.now) units.now }
@@ -180,12 +170,15 @@ impl Day {
             constraint, sizes, supply, units, schedules, links, running, rows,
         );
         match decided {
-            Decided::NoCostSchedule(unit) => refused_at(unit),
-            Decided::All => {
-                if running.would_run(units, sizes.units) > Day::UNITS {
+            Err(lacks) => refused_at(lacks.unit),
+            Ok(_) => {
+                if running.would_run(&units[..sizes.units]) > Day::UNITS {
                     refused_by_state(TOO_MANY_RUNNING)
                 } else {
-                    Deciding::Rows(constraint.hour, sizes.units)
+                    Ok(DecidedRows {
+                        hour: constraint.hour,
+                        count: sizes.units,
+                    })
                 }
             }
         }
@@ -215,23 +208,15 @@ fn list_shown(
 }
 
 // 21, at a unit of the schedules.
-fn refused_at(unit: u64) -> Deciding
-    ensures { result ≡ Deciding.Refused (refused 21 Schedules unit) }
+fn refused_at(unit: u64) -> Result<DecidedRows, Refusal>
+    ensures { result ≡ Err (refused 21 Schedules unit) }
 {
-    Deciding::Refused(Refusal {
-        number: NO_COST_SCHEDULE,
-        file: tables::number(File::Schedules),
-        place: unit,
-    })
+    Err(Refusal::of(NO_COST_SCHEDULE, File::Schedules, unit))
 }
 
 // A refusal that names no file.
-fn refused_by_state(number: u64) -> Deciding
-    ensures { result ≡ Deciding.Refused (bare_refusal number) }
+fn refused_by_state(number: u64) -> Result<DecidedRows, Refusal>
+    ensures { result ≡ Err (bare_refusal number) }
 {
-    Deciding::Refused(Refusal {
-        number,
-        file: 0,
-        place: 0,
-    })
+    Err(Refusal::bare(number))
 }

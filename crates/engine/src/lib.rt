@@ -9,7 +9,7 @@ mod refusals;
 mod releasing;
 mod studying;
 
-pub use day::{Day, LastHour};
-pub use previewing::{Preview, Previewed};
-pub use releasing::{Release, Released};
-pub use studying::{Studied, Study};
+pub use day::Day;
+pub use previewing::Previewed;
+pub use releasing::Released;
+pub use studying::Studied;

@@ -9,23 +9,15 @@ ghost use Rattle.engine.specs.Previewing.{Previews, PreviewsRight};
 ghost use Rattle.engine.specs.promises.Answering.{preview_as, looked_at};
 
 use crate::day::Day;
-use crate::deciding::Deciding;
 use crate::refusals::NOT_SUPPLIED;
 use cells::answer::{UNIT, cell, row_at};
 use tables::{AnswerRow, Refusal};
 
-// What a preview answers: the unit's row, or why it is refused.
-#[derive(Clone, Copy)]
-pub enum Preview {
-    Row(AnswerRow),
-    Refused(Refusal),
-}
-
-// The day, as it was given, with the answer.
+// The day, as it was given, with the answer: the unit's row, or why it is refused.
 #[derive(Clone, Copy)]
 pub struct Previewed {
     pub day: Day,
-    pub answer: Preview,
+    pub answer: Result<AnswerRow, Refusal>,
 }
 
 impl Day {
@@ -46,13 +38,13 @@ impl Day {
         let mut rows = [0u64; answer::CELLS];
         let deciding = self.decide(constraint, supply, schedules, curves, parents, &mut rows);
         match deciding {
-            Deciding::Refused(refusal) => self.looked_at(Preview::Refused(refusal)),
-            Deciding::Rows(_, count) => self.looked_at(row_for(unit, &rows, count)),
+            Err(refusal) => self.looked_at(Err(refusal)),
+            Ok(decided) => self.looked_at(row_for(unit, &rows, decided.count)),
         }
     }
 
     // The very day, with the answer.
-    fn looked_at(self, answer: Preview) -> Previewed
+    fn looked_at(self, answer: Result<AnswerRow, Refusal>) -> Previewed
         ensures { result ≡ looked_at self answer }
     {
         Previewed { day: self, answer }
@@ -60,20 +52,14 @@ impl Day {
 }
 
 // The unit's row among the first `count`, or 31.
-fn row_for(unit: u64, rows: &[u64], count: usize) -> Preview
+fn row_for(unit: u64, rows: &[u64], count: usize) -> Result<AnswerRow, Refusal>
     requires { count * answer_width ≤ length rows.now }
     ensures { result ≡ preview_as (row_for unit (answer_rows count rows.now)) }
 {
-    let mut i = 0;
-    while i < count {
+    for i in 0..count {
         if cell(rows, i, UNIT) == unit {
-            return Preview::Row(row_at(rows, i));
+            return Ok(row_at(rows, i));
         }
-        i += 1;
     }
-    Preview::Refused(Refusal {
-        number: NOT_SUPPLIED,
-        file: 0,
-        place: 0,
-    })
+    Err(Refusal::bare(NOT_SUPPLIED))
 }

@@ -1,4 +1,4 @@
-// The numbers of the refusals that a day gives.
+// The numbers of the refusals that a day gives, as `Refusal` of tables has them.
 
 // The answer buffer is shorter than the answer.
 pub const SHORT_BUFFER: u64 = 10;

@@ -8,18 +8,11 @@ use crate::day::Day;
 use crate::refusals::{ILL_FORMED, NOT_RUNNING};
 use tables::Refusal;
 
-// What a release answers.
-#[derive(Clone, Copy)]
-pub enum Release {
-    Done,
-    Refused(Refusal),
-}
-
-// The day after a release, with the answer.
+// The day after a release, with the answer: done, or why it is refused.
 #[derive(Clone, Copy)]
 pub struct Released {
     pub day: Day,
-    pub answer: Release,
+    pub answer: Result<(), Refusal>,
 }
 
 impl Day {
@@ -30,18 +23,18 @@ impl Day {
         let hour = self.hour;
         let units = self.units;
         if self.is_formed() {
-            let at = units.place_of(unit);
-            if at < units.count {
-                let day = Day {
-                    hour,
-                    units: units.without_place(at),
-                };
-                Released {
-                    day,
-                    answer: Release::Done,
+            match units.place_of(unit) {
+                Some(at) => {
+                    let day = Day {
+                        hour,
+                        units: units.without_place(at),
+                    };
+                    Released {
+                        day,
+                        answer: Ok(()),
+                    }
                 }
-            } else {
-                self.refused(NOT_RUNNING)
+                None => self.refused(NOT_RUNNING),
             }
         } else {
             self.refused(ILL_FORMED)
@@ -52,14 +45,9 @@ impl Day {
     fn refused(self, number: u64) -> Released
         ensures { result ≡ release_refused self number }
     {
-        let refusal = Refusal {
-            number,
-            file: 0,
-            place: 0,
-        };
         Released {
             day: self,
-            answer: Release::Refused(refusal),
+            answer: Err(Refusal::bare(number)),
         }
     }
 }

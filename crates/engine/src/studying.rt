@@ -10,24 +10,17 @@ ghost use Rattle.engine.specs.promises.Deciding.{RowsReady};
 ghost use Rattle.engine.specs.Studying.{Studies, AnswersRight};
 ghost use Rattle.engine.specs.promises.Answering.{study_refused, Answers};
 
-use crate::day::{Day, LastHour};
-use crate::deciding::Deciding;
+use crate::day::Day;
 use crate::refusals::SHORT_BUFFER;
 use running::Units;
 use tables::Refusal;
 
-// What a study answers: how many bytes of the buffer are the answer file, or why it is refused.
-#[derive(Clone, Copy)]
-pub enum Study {
-    Written(usize),
-    Refused(Refusal),
-}
-
-// The day after a study, with the answer.
+// The day after a study, with the answer: how many bytes of the buffer are the answer file, or why it is
+// refused.
 #[derive(Clone, Copy)]
 pub struct Studied {
     pub day: Day,
-    pub answer: Study,
+    pub answer: Result<usize, Refusal>,
 }
 
 impl Day {
@@ -48,8 +41,8 @@ impl Day {
         let mut rows = [0u64; answer::CELLS];
         let deciding = self.decide(constraint, supply, schedules, curves, parents, &mut rows);
         match deciding {
-            Deciding::Refused(refusal) => self.refuse_study(refusal),
-            Deciding::Rows(hour, count) => self.answer_rows(hour, &rows, count, answer),
+            Err(refusal) => self.refuse_study(refusal),
+            Ok(decided) => self.answer_rows(decided.hour, &rows, decided.count, answer),
         }
     }
 
@@ -60,21 +53,17 @@ impl Day {
         ensures { Answers self hour (answer_rows count rows.now) answer.old answer.new result }
     {
         if answer.len() < answer::length(rows, count) {
-            return self.refuse_study(Refusal {
-                number: SHORT_BUFFER,
-                file: 0,
-                place: 0,
-            });
+            return self.refuse_study(Refusal::bare(SHORT_BUFFER));
         }
         let written = answer::write(rows, count, answer);
         let running = self.units;
         let day = Day {
-            hour: LastHour::At(hour),
+            hour: Some(hour),
             units: running.merged(Units::chosen(rows, count)),
         };
         Studied {
             day,
-            answer: Study::Written(written),
+            answer: Ok(written),
         }
     }
 
@@ -84,7 +73,7 @@ impl Day {
     {
         Studied {
             day: self,
-            answer: Study::Refused(refusal),
+            answer: Err(refusal),
         }
     }
 }

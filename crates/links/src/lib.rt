@@ -3,7 +3,8 @@
 // the last row before it with its key, and behind these, for each key, one more than the place of the
 // last row that has it; 0 stands for none. A run of links has those by unit, and behind them those by
 // unit and schedule. Different units or schedules may share a key: what is searched for tells them
-// apart. Assumes nothing of the numbers.
+// apart. Places are numbers, with 0 for none: this is fixed memory, and an `Option` would take twice the
+// room. Assumes nothing of the numbers.
 #![tactic(auto)]
 
 ghost use Rattle.std.specs.Prelude.{◌≡◌, ◌+◌, ◌≤◌, ◌<◌, ◌++◌, length, get_or, take, drop};

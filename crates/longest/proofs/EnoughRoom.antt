@@ -1,10 +1,10 @@
 -- Document 01: "Its buffer holds the longest answer." A study that is lent as many bytes is never refused for a short buffer.
 -- Assumes nothing.
+use Rattle.std.specs.Prelude.{None, Option, Some}
 use Prim.Native.Nat.{ℕ, ◌≤◌}
 use mathlib.Core.Path.{◌≡◌, refl}
 use mathlib.Core.Logic.{◌≢◌}
 use mathlib.Core.List.{List}
-use mathlib.Core.Option.{Option, none, some}
 use native.Mathlib.Omega.{arith}
 use lib.ListN.{length}
 use Rattle.tables.specs.Refusals.{told}
@@ -22,5 +22,5 @@ never-10 d f buffer room =
     rw (study-told d f buffer, enough-room d f (length buffer) (λ ok. omega (arith, study-longest d f ok))) (go (decision_refusal d f) refl)
   where
     go : (o : Option Refusal) → decision_refusal d f ≡ o → (told o).number ≢ 10
-    go none e = λ z. absurd (omega (arith, z))
-    go (some r) e = decision-not-10 d f r e
+    go None e = λ z. absurd (omega (arith, z))
+    go (Some r) e = decision-not-10 d f r e

@@ -1,10 +1,10 @@
 -- The most that a schedule costs, where rows are within their ranges and no two of one schedule share the hour: its run has
 -- at most one row for each hour of the day. Assumes nothing.
+use Rattle.std.specs.Prelude.{None}
 use Prim.Native.Nat.{ℕ, zero, suc, ◌+◌, ◌*◌, ◌≤◌}
 use mathlib.Core.Path.{◌≡◌, refl, sym, ◌∙◌}
 use mathlib.Core.Bool.{Bool, true, false, cond, ◌&&◌, ◌||◌}
 use mathlib.Core.List.{List, [], ◌∷◌}
-use mathlib.Core.Option.{none}
 use native.Mathlib.Omega.{arith}
 use lib.Dec.{eqb, leb, ltb}
 use borrow.Author.Tests.{ltb-true, ltb-false, lt-ltb, eq-eqb, eqb-true, eqb-false, leb-true}
@@ -73,7 +73,7 @@ module _ (u x : ℕ) where
   -- so an hour costs no more than one row does, and nothing behind a row for it
   once :
       (k : ℕ) (seen : List ScheduleRow) (i : ℕ) (rs : List ScheduleRow) → All PermittedSchedule rs →
-      first_at_odds schedule_odds seen i rs ≡ none →
+      first_at_odds schedule_odds seen i rs ≡ None →
       cond (any (at k) seen) most_hour 0 + cost_of (at k) rs ≤ most_hour
   unfolding any cost_of
   once k seen i [] a e = go (any (at k) seen)
@@ -114,7 +114,7 @@ module _ (u x : ℕ) where
       go true false e h = omega arith
       go false false e h = omega arith
 
-  module _ (rs : List ScheduleRow) (a : All PermittedSchedule rs) (e : schedules_at_odds rs ≡ none) where
+  module _ (rs : List ScheduleRow) (a : All PermittedSchedule rs) (e : schedules_at_odds rs ≡ None) where
     hours-small : (k : ℕ) → cost_of (before k) rs ≤ k * most_hour
     unfolding schedules_at_odds any
     hours-small zero = none_before rs
@@ -148,7 +148,7 @@ module _ (h u : ℕ) (s : ScheduleRow) where
           rw (counts, f) (omega arith)
       go true false w e f g ih = rw f (omega arith)
 
-  module _ (rs : List ScheduleRow) (a : All PermittedSchedule rs) (e : schedules_at_odds rs ≡ none) (p : PermittedSchedule s) where
+  module _ (rs : List ScheduleRow) (a : All PermittedSchedule rs) (e : schedules_at_odds rs ≡ None) (p : PermittedSchedule s) where
     pub cost-small : (running : Bool) → cost running h (own u rs) s ≤ most_cost
     unfolding cost running_cost starting_cost
     cost-small true = omega (arith, hour-small s p)

@@ -1,11 +1,11 @@
 -- Document 01: "Its buffer holds the longest answer." Where no refusal but for 10 stands against a study, the fields of its
 -- rows are no wider than the longest answer has them, so its answer file is no longer. It goes by what demand 3 says of a row
 -- and by the ranges of the files' rows. Assumes nothing.
+use Rattle.std.specs.Prelude.{None}
 use Prim.Native.Nat.{ℕ, ◌≤◌, ◌<◌}
 use mathlib.Core.Path.{◌≡◌, ap}
 use mathlib.Core.Logic.{◌≢◌, ⊎_elim}
 use mathlib.Core.List.{List, Memᴰ as Among}
-use mathlib.Core.Option.{none}
 use native.Mathlib.Omega.{arith}
 use lib.ListN.{length, length-map}
 use Rattle.base.specs.Search.{All}
@@ -69,7 +69,7 @@ module _
 -- the schedule that a right row shows has a number within its range, and costs no more than a whole day
 module _
     {c : ConstraintRow} {supply : List SupplyRow} {scheduled : List ScheduleRow} {running : List RunningUnit}
-    (a : All PermittedSchedule scheduled) (agree : schedules_at_odds scheduled ≡ none)
+    (a : All PermittedSchedule scheduled) (agree : schedules_at_odds scheduled ≡ None)
     {r : AnswerRow} (t : RightSchedule c supply scheduled running r)
   where
     schedule-small : r.schedule ≤ widest_row.schedule
@@ -85,7 +85,7 @@ module _
           cost-small c.hour r.unit t.right.row scheduled a agree (row-permitted a t) (runs (kind_running r.unit running)),
         )
 
-module _ (d : DayView) (f : Files) (e : decision_refusal d f ≡ none) where
+module _ (d : DayView) (f : Files) (e : decision_refusal d f ≡ None) where
   groups-most : length (groups_of f) ≤ (table Supply).most_rows
   unfolding groups_of grouped
   groups-most = rw (length-map (supply_of f.supply) (in_place (head (parents_of f.parents)))) (files-kept d f e).supply-few

@@ -1,12 +1,11 @@
 -- The clearing row: the test for it decides `Clears`; one exists exactly when eligible supply is not short of the need; all
 -- have one cost; and the search finds one. A cutoff and a need are at least 1, as the table has them. Assumes nothing.
+use Rattle.std.specs.Prelude.{Option, unwrap_or}
 use Prim.Native.Nat.{ℕ, ◌+◌, ◌≤◌, ◌<◌}
 use mathlib.Core.Path.{◌≡◌, refl, sym, ◌∙◌}
 use mathlib.Core.Logic.{⊎_elim, ◌↔◌}
 use mathlib.Core.Bool.{Bool, true, false, ◌&&◌}
 use mathlib.Core.List.{List, Memᴰ}
-use mathlib.Core.Option
-use mathlib.Core.Option.{Option}
 use native.Mathlib.Omega.{arith}
 use lib.Dec.{leb, ltb}
 use lib.ListN.{length, get_or}
@@ -186,7 +185,7 @@ clears-exactly cutoff need rows positive some-need = (
 module _ (cutoff need : ℕ) (rows : List SupplyRow) where
   found :
       {o : Option ℕ} → (q : SupplyRow) × Clears cutoff need rows q → Finds no_row (clears cutoff need rows) 0 rows o →
-      (Option.get_or o (length rows) < length rows) × Clears cutoff need rows (row_at rows (Option.get_or o (length rows)))
+      (unwrap_or o (length rows) < length rows) × Clears cutoff need rows (row_at rows (unwrap_or o (length rows)))
   unfolding row_at
   found c (it i h e) =
       let place : 0 + i ≡ i = omega arith in
@@ -205,7 +204,7 @@ module _ (cutoff need : ℕ) (rows : List SupplyRow) where
 
   not_found :
       {o : Option ℕ} → eligible_supply cutoff rows < need → Finds no_row (clears cutoff need rows) 0 rows o →
-      Option.get_or o (length rows) ≡ length rows
+      unwrap_or o (length rows) ≡ length rows
   not_found h (it i k e) =
       let c = (clears-decides cutoff need rows (get_or rows i no_row)).1 (member-at no_row rows i k, e) in
       absurd (omega (arith, clears-enough cutoff need rows (get_or rows i no_row) c))

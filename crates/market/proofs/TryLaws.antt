@@ -1,14 +1,15 @@
 -- Laws of trying rows in file order until one passes a test, over plain lists. Assumes nothing.
-use Prim.Native.Nat.{ℕ, suc, ◌+◌, ◌≤◌, ◌<◌}
-use mathlib.Core.Path.{◌≡◌, refl, sym, ◌∙◌}
-use mathlib.Core.Bool.{Bool, true, false}
+use Prim.Native.Nat.{ℕ, zero, suc, ◌+◌}
+use mathlib.Core.Path.{◌≡◌, refl, sym, ◌∙◌, ap}
+use mathlib.Core.Bool.{Bool, true, false, cond}
 use mathlib.Core.List.{List, [], ◌∷◌}
-use mathlib.Core.Option.{none, get_or}
 use native.Mathlib.Omega.{arith}
 use native.Mathlib.Numerals.{add-one}
 use lib.ListN.{length, drop}
+use Rattle.std.specs.Prelude.{None, Option, Some}
+use Rattle.std.specs.List.{find, range_with_len}
+use Rattle.std.specs.Option.{unwrap_or}
 use Rattle.base.specs.Search.{first}
-use Rattle.base.proofs.Searches.{first-none, first-here, first-later}
 use Rattle.tables.specs.Rows.{SupplyRow}
 use Rattle.tables.specs.promises.FlatRows.{supply_rows}
 use Rattle.cells.proofs.RowViews.{supply-length}
@@ -17,32 +18,24 @@ use Rattle.market.specs.promises.Narrowing.{eligible_at, first_at}
 use Rattle.cells.specs.promises.Views.{supply_at}
 use Rattle.offers.proofs.CellLaws.{rows_next, rows_end}
 
--- of n rows the first i have been tried, and none of them passes
-pub record Trying (n : ℕ) (cells : List ℕ) (p : SupplyRow → Bool) (i : ℕ) : Type 0 where
-  pub upto : i ≤ n
-  pub not_yet : first p 0 (supply_rows n cells) ≡ first p i (drop i (supply_rows n cells))
-
+-- rows tried from a place on: the place of the first that passes, or n where none does
 module _ (n : ℕ) (cells : List ℕ) (p : SupplyRow → Bool) where
-  pub trying-none : Trying n cells p 0
-  trying-none = record { upto = omega arith; not_yet = refl }
+  abbrev passes : ℕ → Bool
+  passes i = p (supply_at cells i)
 
-  module _ (i : ℕ) (l : Trying n cells p i) where
-    pub trying-next : i < n → p (supply_at cells i) ≡ false → Trying n cells p (i + 1)
-    trying-next h e =
-        record {
-          upto = omega arith;
-          not_yet =
-              l.not_yet
-              ∙ rw (rows_next n cells i h, add-one i) (first-later p i (supply_at cells i) (drop (suc i) (supply_rows n cells)) e);
-        }
+  try-one : (t : Bool) (i l : ℕ) (f g : Option ℕ) → unwrap_or f n ≡ unwrap_or g l → unwrap_or (cond t (Some i) f) n ≡ unwrap_or (cond t (Some i) g) l
+  try-one true i l f g e = refl
+  try-one false i l f g e = e
 
-    pub trying-here :
-        i < n → p (supply_at cells i) ≡ true → i ≡ get_or (first p 0 (supply_rows n cells)) (length (supply_rows n cells))
-    trying-here h e =
-        rw (l.not_yet, rows_next n cells i h, first-here p i (supply_at cells i) (drop (i + 1) (supply_rows n cells)) e)
+  try-range : (left i : ℕ) → i + left ≡ n → unwrap_or (find passes (range_with_len i left)) n ≡ unwrap_or (first p i (drop i (supply_rows n cells))) (length (supply_rows n cells))
+  unfolding first
+  try-range zero i e = rw (rows_end n cells i (omega arith)) (sym (supply-length n cells))
+  try-range (suc left) i e =
+      let more = try-range left (i + 1) (omega arith) in
+      rw (rows_next n cells i (omega arith)) (try-one (passes i) i _ _ _ (rw (← add-one i) more))
 
-    pub trying-over : n ≤ i → n ≡ get_or (first p 0 (supply_rows n cells)) (length (supply_rows n cells))
-    trying-over h = rw (l.not_yet, rows_end n cells i h, first-none p i) (sym (supply-length n cells))
+  pub first-tried : (r : Option ℕ) → r ≡ find passes (range_with_len 0 n) → unwrap_or r n ≡ unwrap_or (first p 0 (supply_rows n cells)) (length (supply_rows n cells))
+  first-tried r e = ap (λ o. unwrap_or o n) e ∙ try-range n 0 (omega arith)
 
 -- tests that agree find the same, and a test that nothing passes finds nothing
 first-agree :
@@ -52,7 +45,7 @@ first-agree p q h k [] = refl
 first-agree p q h k (r ∷ rows) = rw (h r, first-agree p q h (suc k) rows)
 
 first-nothing :
-    (p : SupplyRow → Bool) → ((r : SupplyRow) → p r ≡ false) → (k : ℕ) (rows : List SupplyRow) → first p k rows ≡ none
+    (p : SupplyRow → Bool) → ((r : SupplyRow) → p r ≡ false) → (k : ℕ) (rows : List SupplyRow) → first p k rows ≡ None
 unfolding first
 first-nothing p h k [] = refl
 first-nothing p h k (r ∷ rows) = rw (h r) (first-nothing p h (suc k) rows)

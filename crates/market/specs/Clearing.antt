@@ -2,9 +2,8 @@
 -- twice: `Clears` is the paper's sentence, and `clearing` finds the first such row. That they agree, that such a row exists
 -- exactly when eligible supply is not short, and that all such rows have one cost is shown in `proofs/ClearingLaws`.
 -- Assumes nothing.
-use Rattle.std.specs.Prelude.{ℕ, ◌*◌, ◌≤◌, ◌<◌, Bool, ◌&&◌, leb, ltb, length}
+use Rattle.std.specs.Prelude.{ℕ, ◌*◌, ◌≤◌, ◌<◌, Bool, ◌&&◌, leb, ltb, length, unwrap_or}
 use mathlib.Core.List.{List, Memᴰ}
-use Rattle.std.proofs.Math.Option.{get_or}
 use Rattle.base.specs.Search.{first}
 use Rattle.tables.specs.Rows.{SupplyRow}
 use Rattle.offers.specs.Supply.{abs_dfax, eligible, total_supply, at_most, below, row_at}
@@ -45,7 +44,7 @@ clears cutoff need rows q =
 
 -- the place of the first row in file order that clears, or the number of rows where none does
 unfoldable pub clearing : ℕ → ℕ → List SupplyRow → ℕ
-clearing cutoff need rows = get_or (first (clears cutoff need rows) 0 rows) (length rows)
+clearing cutoff need rows = unwrap_or (first (clears cutoff need rows) 0 rows) (length rows)
 
 unfoldable pub clearing_row : ℕ → ℕ → List SupplyRow → SupplyRow
 clearing_row cutoff need rows = row_at rows (clearing cutoff need rows)

@@ -7,7 +7,7 @@ ghost use Rattle.market.specs.promises.Narrowing.{eligible_at, first_at};
 ghost use Rattle.tables.specs.promises.FlatRows.{supply_rows};
 
 use crate::narrowing::clearing_cost;
-use crate::parts::{Part, supply_of};
+use crate::parts::supply_of;
 use offers::{cost_beside, is_eligible};
 
 // A dfax of 1, in ten-thousandths.
@@ -17,7 +17,7 @@ pub fn eligible_supply(cells: &[u64], n: usize, cutoff: u64) -> u64
     requires { SupplyCells n cells.now }
     ensures { result ≡ eligible_supply cutoff (supply_rows n cells.now) }
 {
-    supply_of(cells, n, cutoff, Part::Eligible)
+    supply_of(cells, n, |row| is_eligible(cells, row, cutoff))
 }
 
 // The need, in the unit of effective supply, of a relief that the table permits.
@@ -28,8 +28,8 @@ pub fn need_of(relief: u64) -> u64
     relief * WHOLE_DFAX
 }
 
-// The place of the first of the first `n` rows that clears, or `n` where none does: no supply is
-// below a need of 0.
+// The place of the first of the first `n` rows that clears, or `n` where none does, as the definition
+// `clearing` has it: no supply is below a need of 0.
 pub fn clearing_row(cells: &[u64], n: usize, cutoff: u64, need: u64) -> usize
     requires { SupplyCells n cells.now }
     ensures { result ≡ clearing cutoff need (supply_rows n cells.now) }
@@ -50,14 +50,9 @@ fn first_at(cells: &[u64], n: usize, cutoff: u64, limit: usize) -> usize
     requires limit_lt_n { limit < n }
     ensures { result ≡ first_at cutoff (supply_at cells.now limit) (supply_rows n cells.now) }
 {
-    let mut row = 0;
-    while row < n {
-        if is_at(cells, row, limit, cutoff) {
-            return row;
-        }
-        row += 1;
-    }
-    n
+    (0..n)
+        .find(|row| is_at(cells, *row, limit, cutoff))
+        .unwrap_or(n)
 }
 
 fn is_at(cells: &[u64], row: usize, limit: usize, cutoff: u64) -> bool

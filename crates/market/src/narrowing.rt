@@ -5,7 +5,7 @@ ghost use Rattle.cells.specs.promises.Views.{supply_at};
 ghost use Rattle.offers.specs.promises.Ranges.{SupplyRowAt, SupplyCells};
 ghost use Rattle.market.specs.promises.Narrowing.{counts as narrowing_counts, cheaper, between, Bounding, Narrows, ClearingCost};
 
-use crate::parts::{Part, supply_of};
+use crate::parts::{is_up_to, supply_of};
 use offers::{cost_beside, effective_supply, is_eligible};
 
 // The most rows.
@@ -16,7 +16,8 @@ const ROWS: usize = 256;
 // the order of their costs are then tried a dozen times and not one after the other.
 const STRIDE: usize = 157;
 
-// Each bound is the place of a row whose cost it is; past the rows there is none.
+// Each bound is the place of a row whose cost it is; past the rows there is none, as the definition
+// `clearing` has it.
 #[derive(Clone, Copy)]
 pub struct Bounds {
     pub low: usize,
@@ -30,10 +31,8 @@ pub fn clearing_cost(cells: &[u64], n: usize, cutoff: u64, need: u64) -> usize
     ensures { ClearingCost n cells.now cutoff need result }
 {
     let mut bounds = Bounds { low: n, high: n };
-    let mut turn = 0;
-    while turn < ROWS {
+    for turn in 0..ROWS {
         bounds = narrowed(cells, n, cutoff, need, bounds, turn * STRIDE % ROWS);
-        turn += 1;
     }
     bounds.high
 }
@@ -50,7 +49,7 @@ fn narrowed(cells: &[u64], n: usize, cutoff: u64, need: u64, bounds: Bounds, row
     if !is_between(cells, n, cutoff, bounds, row) {
         return bounds;
     }
-    if supply_of(cells, n, cutoff, Part::UpTo(row)) < need {
+    if supply_of(cells, n, |other| is_up_to(cells, other, row, cutoff)) < need {
         return Bounds {
             low: row,
             high: bounds.high,

@@ -6,7 +6,7 @@ ghost use Rattle.offers.specs.promises.Ranges.{SupplyRowAt, SupplyCells};
 ghost use Rattle.market.specs.Parties.{party as parties_party, parties as parties_parties, amount_of};
 ghost use Rattle.tables.specs.promises.FlatRows.{supply_rows};
 
-use crate::parts::{Part, supply_of};
+use crate::parts::{is_relevant_of, supply_of};
 use numbers::insert;
 use offers::supplier;
 
@@ -26,11 +26,9 @@ pub fn list_parties(cells: &[u64], n: usize, out: &mut [u64]) -> usize
     ensures { Wrote (parties_parties (supply_rows n cells.now)) result out.old out.new }
 {
     let mut count = 0;
-    let mut row = 0;
-    while row < n {
+    for row in 0..n {
         let k = party(cells, row);
         count = insert(out, count, k);
-        row += 1;
     }
     count
 }
@@ -52,9 +50,12 @@ pub fn add_amounts(
     requires count_in_bounds_2 { count ≤ length out.old }
     ensures { out.new ≡ map (amount_of cutoff (supply_at cells.now clearing) (supply_rows n cells.now)) (take count parties.now) ++ drop count out.old }
 {
-    let mut i = 0;
-    while i < count {
-        out[i] = supply_of(cells, n, cutoff, Part::RelevantOf(clearing, parties[i]));
-        i += 1;
+    for i in 0..count {
+        let party = parties[i];
+        out[i] = supply_of(
+            cells,
+            n,
+            |row| is_relevant_of(cells, row, clearing, cutoff, party),
+        );
     }
 }

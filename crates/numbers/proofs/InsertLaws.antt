@@ -1,25 +1,26 @@
--- Laws of inserting a number among those at the start of a run, over plain lists: finding its place, and putting it there,
--- number by number. Assumes nothing.
+-- Laws of inserting a number among those at the start of a run, over plain lists: finding its place, and putting it there.
+-- Assumes nothing.
 use Prim.Native.Nat.{ℕ, suc, ◌+◌, ◌-◌, ◌≤◌, ◌<◌}
 use mathlib.Core.Path.{◌≡◌, refl, sym, ◌∙◌, ap}
-use mathlib.Core.Logic.{⊎_elim}
+use mathlib.Core.Logic.{◌⊎◌, inl, inr, ⊎_elim}
+use mathlib.Core.Bool.{Bool, true, false, not, cond}
 use mathlib.Core.List.{List, [], ◌∷◌, ◌++◌, append_assoc}
 use native.Mathlib.Omega.{arith}
 use native.Mathlib.Numerals.{add-one}
-use lib.ListN.{length, get_or, take, drop, set, length-set, length-append, take-append-drop}
-use lib.Seq.{take-suc-set, drop-set-lt, take-suc, append_snoc, drop-drop, get_or-take, length-take-le, set_split, take-take}
+use lib.Dec.{leb, ltb}
+use borrow.Author.Tests.{leb-true, leb-false, lt-ltb, le-ltb}
+use Rattle.std.specs.List.{copy_within, position, position_or_len}
+use Rattle.std.specs.Prelude.{Option, Some, None, unwrap_or}
+use lib.ListN.{length, get_or, take, drop, set, length-append, take-append-drop}
+use lib.Seq.{get_or-take, length-take-le, set_split, take-take, take-append-le, drop_at}
+use Rattle.std.proofs.lemmas.List.{drop-take}
 use Rattle.base.specs.Rising.{inserted}
 use Rattle.base.specs.promises.Writing.{Wrote}
-use Rattle.base.proofs.Lists.{drop-next, drop-end}
+use Rattle.base.proofs.Lists.{drop-end}
 use Rattle.base.proofs.Tests.{lt-or-ge}
 use Rattle.base.proofs.RisingLaws.{inserted-cases}
 use Rattle.numbers.specs.promises.Inserting.{Placed, with_at}
 use Rattle.numbers.proofs.SearchLaws.{front-next}
-
--- i numbers are passed on the way to the place of x
-pub record Placing (x : ℕ) (xs : List ℕ) (i : ℕ) : Type 0 where
-  pub within : i ≤ length xs
-  pub passed : inserted x xs ≡ take i xs ++ inserted x (drop i xs)
 
 inserted-behind : (x y : ℕ) (ys : List ℕ) → y < x → inserted x (y ∷ ys) ≡ y ∷ inserted x ys
 inserted-behind x y ys h =
@@ -42,88 +43,75 @@ inserted-at x y ys e =
     (λ same. refl)
     (λ above. absurd (omega arith))
 
-module _ (x : ℕ) (xs : List ℕ) where
-  pub placing-none : Placing x xs 0
-  placing-none = record { within = omega arith; passed = refl }
+-- the place of the first number that is not below x, the length where there is none
+placed_first : (x : ℕ) (xs : List ℕ) → Placed x xs (position_or_len (λ (y : ℕ). leb x y) xs)
+placed_first x [] = record { within = omega arith; passed = refl; stops = λ h. absurd (omega arith) }
+placed_first x (y ∷ ys) = go (leb x y) refl (placed_first x ys)
+  where
+    n : ℕ
+    n = position_or_len (λ (z : ℕ). leb x z) ys
 
-  pub placing-next : (i : ℕ) → Placing x xs i → i < length xs → get_or xs i 0 < x → Placing x xs (i + 1)
-  placing-next i p h below =
-      record {
-        within = omega arith;
-        passed =
-            p.passed
-            ∙ rw (
-              drop-next 0 i xs h,
-              inserted-behind x (get_or xs i 0) (drop (i + 1) xs) below,
-              add-one i,
-              take-suc xs i 0 h,
-              append_snoc (take i xs) (get_or xs i 0) (inserted x (drop (suc i) xs)),
-            );
-      }
+    go : (t : Bool) → leb x y ≡ t → Placed x ys n → Placed x (y ∷ ys) (cond (not t) (1 + n) 0)
+    go true e p = record { within = omega arith; passed = refl; stops = λ h. leb-true x y e }
+    go false e p =
+        let more : 1 + n ≡ suc n = omega arith in
+        rw more
+        record {
+          within = omega (arith, p.within);
+          passed = inserted-behind x y ys (leb-false x y e) ∙ ap (λ (l : List ℕ). y ∷ l) p.passed;
+          stops = λ h. p.stops (omega arith);
+        }
 
-  pub placing-here : (i : ℕ) → Placing x xs i → x ≤ get_or xs i 0 → Placed x xs i
-  placing-here i p h = record { within = p.within; passed = p.passed; stops = λ inside. h }
+pub placed_found :
+    (x : ℕ) (xs : List ℕ) {found : Option ℕ} {r : ℕ} →
+    found ≡ position (λ (y : ℕ). leb x y) xs → r ≡ unwrap_or found (length xs) → Placed x xs r
+placed_found x xs e f = rw (f, e) (go (lt-or-ge n (length xs)))
+  where
+    n : ℕ
+    n = position_or_len (λ (y : ℕ). leb x y) xs
 
-  pub placing-over : (i : ℕ) → Placing x xs i → length xs ≤ i → Placed x xs i
-  placing-over i p h = record { within = p.within; passed = p.passed; stops = λ inside. absurd (omega arith) }
+    go : (n < length xs) ⊎ (length xs ≤ n) → Placed x xs (unwrap_or (cond (ltb n (length xs)) (Some n) None) (length xs))
+    go (inl h) = rw (lt-ltb n (length xs) h) (placed_first x xs)
+    go (inr h) =
+        let all : length xs ≡ n = omega (arith, (placed_first x xs).within) in
+        rw (le-ltb n (length xs) h, all) (placed_first x xs)
 
-kept_on : (k : ℕ) (new old : List ℕ) → drop k new ≡ drop k old → drop (k + 1) new ≡ drop (k + 1) old
-kept_on k new old e = sym (drop-drop 1 k new) ∙ ap (drop 1) e ∙ drop-drop 1 k old
+-- the numbers from `at` up to `count` one place further, and then x at `at`
+pub moved_up :
+    (old : List ℕ) (at count x : ℕ) → at ≤ count → count < length old →
+    set (copy_within old at count (at + 1)) at x ≡ with_at at count x old
+unfolding with_at
+moved_up old at count x h r =
+    rw (
+      append_assoc (take (at + 1) old) (take (count - at) (drop at old)) (drop (at + 1 + (count - at)) old),
+      behind_count,
+      set_split (take (at + 1) old ++ rest) at x inside,
+      take-append-le at (take (at + 1) old) rest within,
+      take-take at (at + 1) old (omega arith),
+      ← add-one at,
+      drop_at (take (at + 1) old) rest (at + 1) length_front,
+      middle,
+    )
+  where
+    rest : List ℕ
+    rest = take (count - at) (drop at old) ++ drop (suc count) old
 
--- x is on its way to `at`: the numbers before k are in their places, and `held` is the next
-pub record Putting (old : List ℕ) (at count x : ℕ) (new : List ℕ) (held k : ℕ) : Type 0 where
-  pub upto : k ≤ count
-  pub room : count < length old
-  pub same_length : length new ≡ length old
-  pub put : with_at at count x old ≡ take k new ++ held ∷ (drop k (take count old) ++ drop (suc count) old)
-  pub kept : drop k new ≡ drop k old
+    length_front : length (take (at + 1) old) ≡ at + 1
+    length_front = length-take-le (at + 1) old (omega arith)
 
-module _ (old : List ℕ) (at count x : ℕ) where
-  pub putting-none : at ≤ count → count < length old → Putting old at count x old x at
-  unfolding with_at
-  putting-none h r = record { upto = h; room = r; same_length = refl; put = refl; kept = refl }
+    within : at ≤ length (take (at + 1) old)
+    within = omega (arith, length_front)
 
-  pub putting-next :
-      (new : List ℕ) (held k : ℕ) → Putting old at count x new held k → k < count →
-      Putting old at count x (set new k held) (get_or new k 0) (k + 1)
-  putting-next new held k p h =
-      record {
-        upto = omega arith;
-        room = p.room;
-        same_length = length-set new k held ∙ p.same_length;
-        put =
-            p.put
-            ∙ rw (
-              front-next count k old (omega (arith, p.room)) h,
-              same_number,
-              add-one k,
-              take-suc-set new k held inside,
-              append_snoc (take k new) held,
-            );
-        kept = drop-set-lt (k + 1) new k held (omega arith) ∙ kept_on k new old p.kept;
-      }
-    where
-      inside : k < length new
-      inside = omega (arith, p.room, p.same_length)
+    inside : at < length (take (at + 1) old ++ rest)
+    inside = omega (arith, length_front, length-append (take (at + 1) old) rest)
 
-      same_number : get_or old k 0 ≡ get_or new k 0
-      same_number =
-          ap (λ (l : List ℕ). get_or l 0 0)
-          (sym (drop-next 0 k old (omega (arith, p.room))) ∙ sym p.kept ∙ drop-next 0 k new inside)
+    behind_count : at + 1 + (count - at) ≡ suc count
+    behind_count = omega arith
 
-  pub putting-over :
-      (new : List ℕ) (held k : ℕ) → Putting old at count x new held k → count ≤ k → set new count held ≡ with_at at count x old
-  putting-over new held k p h =
-      set_split new count held (omega (arith, p.room, p.same_length)) ∙ sym (p.put ∙ rw (over, none_left, rest))
-    where
-      over : k ≡ count
-      over = omega (arith, p.upto)
-
-      rest : drop (suc count) old ≡ drop (suc count) new
-      rest = rw (← add-one count, ← over) (sym (kept_on k new old p.kept))
-
-      none_left : drop count (take count old) ≡ []
-      none_left = drop-end count (take count old) (rw (length-take-le count old (omega (arith, p.room))) (omega arith))
+    middle : take (count - at) (drop at old) ≡ drop at (take count old)
+    middle =
+        let whole : at + (count - at) ≡ count = omega arith in
+        sym (rw whole at (drop-take at (count - at) old))
 
 module _ (old : List ℕ) (count x at : ℕ) (room : count < length old) (lent : Placed x (take (count - 0) old) at) where
   placed : Placed x (take count old) at

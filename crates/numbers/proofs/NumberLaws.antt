@@ -29,7 +29,7 @@ inserted-rises x (from {x = y} {xs = ys} r) =
     (λ same. from r)
     (λ above. from (inserted_rising x above r))
 
-eqb-swapped : (m n : ℕ) → eqb m n ≡ eqb n m
+pub eqb-swapped : (m n : ℕ) → eqb m n ≡ eqb n m
 eqb-swapped m n =
     ⊎_elim
     (λ e. eq-eqb m n e ∙ sym (eq-eqb n m (sym e)))

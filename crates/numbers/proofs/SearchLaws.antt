@@ -1,21 +1,24 @@
--- Laws of searching numbers, over plain lists, number by number. Assumes nothing.
+-- Laws of searching numbers, over plain lists. Assumes nothing.
 use Prim.Native.Nat.{ℕ, suc, ◌+◌, ◌≤◌, ◌<◌}
-use mathlib.Core.Path.{◌≡◌, refl, sym, ◌∙◌}
-use mathlib.Core.Bool.{true, false}
-use mathlib.Core.List.{List, ◌∷◌}
-use mathlib.Core.Option
-use mathlib.Core.Option.{Option}
+use mathlib.Core.Path.{◌≡◌, refl, sym, ◌∙◌, ap}
+use mathlib.Core.Bool.{Bool, true, false, cond}
+use mathlib.Core.List.{List, [], ◌∷◌}
+use native.Mathlib.Numerals.{add-one}
 use native.Mathlib.Omega.{arith}
+use Rattle.std.specs.List.{list_any, position, position_from}
+use Rattle.std.specs.Prelude.{Option, Some, unwrap_or}
+use Rattle.std.proofs.lemmas.Iterator.Adapters.{position_from-zero}
 use lib.Dec.{eqb}
 use lib.ListN.{length, get_or, take, drop}
 use lib.Seq.{get_or-take, length-take-le}
-use borrow.Author.Tests.{eqb-true, eq-eqb, ne_eqb}
+use borrow.Author.Tests.{eqb-true, eq-eqb}
 use Rattle.base.specs.Rising.{among}
 use Rattle.base.specs.Search.{first}
-use Rattle.base.proofs.Lists.{drop-next, drop-end}
+use Rattle.base.proofs.Lists.{drop-next}
 use Rattle.base.proofs.Members.{Finds, it, nothing, finds, member-at}
 use Rattle.base.proofs.Tests.{false-true}
 use Rattle.numbers.specs.Numbers.{place_of}
+use Rattle.numbers.proofs.NumberLaws.{eqb-swapped}
 
 -- the first n numbers from i on, taken apart
 pub front-next :
@@ -23,58 +26,28 @@ pub front-next :
 front-next n i s h k =
     drop-next 0 i (take n s) (rw (length-take-le n s h) k) ∙ rw (get_or-take n s i 0 k)
 
--- x is sought among the first `count` numbers, and i are passed
-pub record Seeking (x : ℕ) (xs : List ℕ) (count i : ℕ) : Type 0 where
-  pub upto : i ≤ count
-  pub room : count ≤ length xs
-  pub left : among x (take count xs) ≡ among x (drop i (take count xs))
+-- the search of std, with the number that is sought on the test's other side
+pub any_among : (x : ℕ) (xs : List ℕ) {r : Bool} → r ≡ list_any (λ (y : ℕ). eqb y x) xs → r ≡ among x xs
+unfolding among
+any_among x [] e = e
+any_among x (y ∷ ys) e = e ∙ rw (eqb-swapped y x, any_among x ys refl)
 
-module _ (x : ℕ) (xs : List ℕ) (count : ℕ) where
-  pub seeking-none : count ≤ length xs → Seeking x xs count 0
-  seeking-none h = record { upto = omega arith; room = h; left = refl }
+-- the first place at which a test passes, by std's definition and by base's
+module _ (p : ℕ → Bool) where
+  first_place : (k : ℕ) (xs : List ℕ) → position_from p k xs ≡ first p k xs
+  unfolding first
+  first_place k [] = refl
+  first_place k (x ∷ xs) = ap (cond (p x) (Some k)) (rw add-one (first_place (suc k) xs))
 
-  pub seeking-next : (i : ℕ) → Seeking x xs count i → i < count → (x ≡ get_or xs i 0 → ⊥) → Seeking x xs count (i + 1)
-  unfolding among
-  seeking-next i s h e =
-      record {
-        upto = omega arith;
-        room = s.room;
-        left = s.left ∙ rw (front-next count i xs s.room h, ne_eqb x (get_or xs i 0) e);
-      }
+  pub found_place : (xs : List ℕ) {found : Option ℕ} → found ≡ position p xs → found ≡ first p 0 xs
+  found_place xs e = e ∙ rw position_from-zero (first_place 0 xs)
 
-  pub seeking-here : (i : ℕ) → Seeking x xs count i → i < count → x ≡ get_or xs i 0 → true ≡ among x (take count xs)
-  unfolding among
-  seeking-here i s h e =
-      sym (s.left ∙ rw (front-next count i xs s.room h, eq-eqb x (get_or xs i 0) e))
-
-  pub seeking-over : (i : ℕ) → Seeking x xs count i → count ≤ i → false ≡ among x (take count xs)
-  unfolding among
-  seeking-over i s h =
-      sym (s.left ∙ rw (drop-end i (take count xs) (rw (length-take-le count xs s.room) h)))
-
--- the place of a number is sought, and it isn't among those before place i
-pub Sought : ℕ → List ℕ → ℕ → Type 0
-Sought k list i = place_of k list ≡ Option.get_or (first (λ (j : ℕ). eqb j k) i (drop i list)) 0
-
-module _ (k : ℕ) (list : List ℕ) where
-  pub sought-none : Sought k list 0
-  unfolding Sought place_of
-  sought-none = refl
-
-  module _ (i : ℕ) (sought : Sought k list i) where
-    pub sought-here : i < length list → eqb (get_or list i 0) k ≡ true → i ≡ place_of k list
-    unfolding Sought first
-    sought-here h e = sym (sought ∙ rw (drop-next 0 i list h, e))
-
-    pub sought-later : i < length list → eqb (get_or list i 0) k ≡ false → Sought k list (i + 1)
-    unfolding Sought first
-    sought-later h e =
-        let next : suc i ≡ i + 1 = omega arith in
-        sought ∙ rw (drop-next 0 i list h, e, next)
-
-    pub sought-over : length list ≤ i → 0 ≡ place_of k list
-    unfolding Sought first
-    sought-over h = sym (sought ∙ rw (drop-end i list h))
+-- where 0 stands for a place that isn't there, as in the definition
+pub place-told :
+    (x : ℕ) (xs : List ℕ) {found : Option ℕ} {place : ℕ} →
+    found ≡ first (λ (y : ℕ). eqb y x) 0 xs → place ≡ unwrap_or found 0 → place ≡ place_of x xs
+unfolding place_of
+place-told x xs e f = f ∙ rw e
 
 -- the place of a number that is among some
 pub place-holds :
@@ -85,7 +58,7 @@ place-holds k ks (i, h, e) = go (finds 0 (λ (j : ℕ). eqb j k) 0 ks)
   where
     go :
         {o : Option ℕ} → Finds 0 (λ (j : ℕ). eqb j k) 0 ks o →
-        (Option.get_or o 0 < length ks) × (get_or ks (Option.get_or o 0) 0 ≡ k)
+        (unwrap_or o 0 < length ks) × (get_or ks (unwrap_or o 0) 0 ≡ k)
     go (it j l f) =
         let place : 0 + j ≡ j = omega arith in
         rw place (l, eqb-true (get_or ks j 0) k f)

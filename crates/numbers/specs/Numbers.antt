@@ -1,6 +1,5 @@
 -- Different numbers out of some rows, and the place of a number. Assumes nothing.
-use Rattle.std.specs.Prelude.{ℕ, List, [], ◌∷◌, eqb}
-use Rattle.std.proofs.Math.Option.{get_or}
+use Rattle.std.specs.Prelude.{ℕ, List, [], ◌∷◌, eqb, unwrap_or}
 use Rattle.base.specs.Rising.{inserted}
 use Rattle.base.specs.Search.{first}
 
@@ -15,4 +14,4 @@ module _ {A : Type 0} (column : A → ℕ) where
 
 -- the place of a number in a list
 unfoldable pub place_of : ℕ → List ℕ → ℕ
-place_of k ks = get_or (first (λ (j : ℕ). eqb j k) 0 ks) 0
+place_of k ks = unwrap_or (first (λ (j : ℕ). eqb j k) 0 ks) 0

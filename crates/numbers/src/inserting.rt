@@ -24,14 +24,7 @@ pub fn insert(out: &mut [u64], count: usize, x: u64) -> usize
 fn place(xs: &[u64], x: u64) -> usize
     ensures { Placed x xs.now result }
 {
-    let mut i = 0;
-    while i < xs.len() {
-        if x <= xs[i] {
-            return i;
-        }
-        i += 1;
-    }
-    i
+    xs.iter().position(|y| x <= *y).unwrap_or(xs.len())
 }
 
 // Puts x at `at`, and moves the numbers from there up to `count` one place further.
@@ -39,13 +32,6 @@ fn put_at(out: &mut [u64], at: usize, count: usize, x: u64)
     requires { (at ≤ count) × (count < length out.old) }
     ensures { out.new ≡ with_at at count x out.old }
 {
-    let mut held = x;
-    let mut k = at;
-    while k < count {
-        let moved = out[k];
-        out[k] = held;
-        held = moved;
-        k += 1;
-    }
-    out[count] = held;
+    out.copy_within(at..count, at + 1);
+    out[at] = x;
 }

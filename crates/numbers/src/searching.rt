@@ -1,33 +1,18 @@
 // Searches for a number. Nothing is assumed of the numbers that are there.
-ghost use Rattle.std.specs.Prelude.{◌≡◌, ◌≤◌, length, take};
+ghost use Rattle.std.specs.Prelude.{ℕ, ◌≡◌, eqb};
 ghost use Rattle.base.specs.Rising.{among};
-ghost use Rattle.numbers.specs.Numbers.{place_of};
+ghost use Rattle.base.specs.Search.{first};
 
-// Whether x is one of the first `count` numbers.
-pub fn contains(xs: &[u64], count: usize, x: u64) -> bool
-    requires { count ≤ length xs.now }
-    ensures { result ≡ among x (take count xs.now) }
+// Whether x is one of the numbers.
+pub fn contains(xs: &[u64], x: u64) -> bool
+    ensures { result ≡ among x xs.now }
 {
-    let mut i = 0;
-    while i < count {
-        if x == xs[i] {
-            return true;
-        }
-        i += 1;
-    }
-    false
+    xs.contains(&x)
 }
 
-// The place of x, 0 where it isn't there.
-pub fn place_of(x: u64, xs: &[u64]) -> usize
-    ensures { result ≡ place_of x xs.now }
+// The place of x, if it is there.
+pub fn place_of(x: u64, xs: &[u64]) -> Option<usize>
+    ensures { result ≡ first (λ (y : ℕ). eqb y x) 0 xs.now }
 {
-    let mut i = 0;
-    while i < xs.len() {
-        if xs[i] == x {
-            return i;
-        }
-        i += 1;
-    }
-    0
+    xs.iter().position(|y| *y == x)
 }

@@ -1,31 +1,29 @@
 -- The laws of numerals: the reading decides the grammar, reading and writing undo one another, how long a numeral is,
 -- that all of it is digits, and what `read` answers. Assumes nothing.
+use Rattle.std.specs.Prelude.{None, Option, Some}
 use Prim.Native.Nat.{ℕ, zero, suc, ◌+◌, ◌/◌, ◌%◌, ◌^◌, ◌≤◌, ◌<◌}
 use mathlib.Core.Path.{◌≡◌, refl, sym, ◌∙◌, ap}
 use mathlib.Core.Logic.{◌⊎◌, inl, inr, ⊎_elim}
 use mathlib.Core.Bool.{Bool, true, false, cond, ◌&&◌}
 use mathlib.Core.List.Memᴰ
 use mathlib.Core.List.{List, [], ◌∷◌, ◌++◌, Memᴰ}
-use mathlib.Core.Option.{Option, none, some}
 use native.Mathlib.Omega.{arith}
 use lib.Dec.{leb, eqb}
 use lib.ListN.{length}
 use borrow.Author.Tests.{leb-true, eqb-true, eqb-false}
 use Rattle.base.proofs.Tests.{lt-or-ge}
-use Rattle.numeral.specs.declared.Answer.TheVariants.{Number, Refused}
-use Rattle.numeral.specs.promises.Answers.{numeral_answer}
 use Rattle.numeral.specs.Numeral.{ZERO, with_digit, digits_from, leading_zero, number, within, digits_before, digits}
 use Rattle.numeral.specs.Grammar.{Digit, Digits, Numeral, Digits.end, Digits.digit, Numeral.zero-itself, Numeral.no-leading-zero}
 use Rattle.numeral.proofs.Reading.{none-some, from-digit, number-from, digits-read, read-digits}
 use Rattle.numeral.proofs.Writing.{before, before-one, before_more, length-one, length_more}
 
 -- the reading decides the grammar
-pub numeral-number : {s : List ℕ} {n : ℕ} → Numeral s n → number s ≡ some n
+pub numeral-number : {s : List ℕ} {n : ℕ} → Numeral s n → number s ≡ Some n
 unfolding number leading_zero digits_from
 numeral-number zero-itself = refl
 numeral-number (no-leading-zero {b = b} {s = s} h r) = number-from b s h ∙ digits-read r
 
-pub number-numeral : (s : List ℕ) (n : ℕ) → number s ≡ some n → Numeral s n
+pub number-numeral : (s : List ℕ) (n : ℕ) → number s ≡ Some n → Numeral s n
 unfolding number leading_zero digits_from
 number-numeral [] n e = none-some e
 number-numeral (b ∷ []) n e = go (eqb b ZERO) refl
@@ -33,7 +31,7 @@ number-numeral (b ∷ []) n e = go (eqb b ZERO) refl
     go : (t : Bool) → eqb b ZERO ≡ t → Numeral (b ∷ []) n
     go true f =
         let h : b ≡ ZERO = eqb-true b ZERO f in
-        let g : number (ZERO ∷ []) ≡ some n = rw h at e in
+        let g : number (ZERO ∷ []) ≡ Some n = rw h at e in
         let k : 0 ≡ n = cc in
         rw (h, ← k) zero-itself
     go false f = no-leading-zero (eqb-false b ZERO f) (read-digits 0 (b ∷ []) n e)
@@ -64,7 +62,7 @@ before-read (suc k) n t p q =
         ap number (before_more n t l) ∙ ih (omega arith) (omega arith)
         ∙ from-digit (n / 10) (ZERO + n % 10) t (omega arith) ∙ ap (λ (m : ℕ). digits_from m t) again
 
-pub number_digits : (n : ℕ) → number (digits n) ≡ some n
+pub number_digits : (n : ℕ) → number (digits n) ≡ Some n
 unfolding digits number leading_zero digits_from digits_before
 number_digits zero = refl
 number_digits (suc n) = before-read (suc n) (suc n) [] (omega arith) (omega arith)
@@ -84,7 +82,7 @@ numeral-digits (no-leading-zero h (digit {b = b} {s = s} d r)) =
     let first : ZERO + with_digit 0 b ≡ b = omega arith in
     sym (rw first at (before-one (with_digit 0 b) s (omega arith))) ∙ before-digits r (omega arith)
 
-pub digits_number : (s : List ℕ) (n : ℕ) → number s ≡ some n → s ≡ digits n
+pub digits_number : (s : List ℕ) (n : ℕ) → number s ≡ Some n → s ≡ digits n
 digits_number s n e = numeral-digits (number-numeral s n e)
 
 pub digits-numeral : (n : ℕ) → Numeral (digits n) n
@@ -137,39 +135,28 @@ numeral-digit (no-leading-zero h r) i = digits-all r i
 pub digits-digit : (n : ℕ) {b : ℕ} → Memᴰ b (digits n) → Digit b
 digits-digit n i = numeral-digit (digits-numeral n) i
 
-pub no-numeral : (s : List ℕ) {b : ℕ} → (Digit b → ⊥) → Memᴰ b s → number s ≡ none
+pub no-numeral : (s : List ℕ) {b : ℕ} → (Digit b → ⊥) → Memᴰ b s → number s ≡ None
 no-numeral s h i = go (number s) refl
   where
-    go : (o : Option ℕ) → number s ≡ o → o ≡ none
-    go none e = refl
-    go (some n) e = absurd (h (numeral-digit (number-numeral s n e) i))
+    go : (o : Option ℕ) → number s ≡ o → o ≡ None
+    go None e = refl
+    go (Some n) e = absurd (h (numeral-digit (number-numeral s n e) i))
 
-pub no-numeral-around : (a c : List ℕ) (b : ℕ) → (Digit b → ⊥) → number (a ++ b ∷ c) ≡ none
+pub no-numeral-around : (a c : List ℕ) (b : ℕ) → (Digit b → ⊥) → number (a ++ b ∷ c) ≡ None
 no-numeral-around a c b h = no-numeral (a ++ b ∷ c) h (Memᴰ.append_right a (Memᴰ.head refl))
 
 -- what a number within the bounds is
 pub within-some :
-    (least most n : ℕ) (o : Option ℕ) → within least most o ≡ some n → (o ≡ some n) × (least ≤ n) × (n ≤ most)
+    (least most n : ℕ) (o : Option ℕ) → within least most o ≡ Some n → (o ≡ Some n) × (least ≤ n) × (n ≤ most)
 unfolding within
-within-some least most n none e = none-some e
-within-some least most n (some m) e = go (leb least m) (leb m most) refl refl e
+within-some least most n None e = none-some e
+within-some least most n (Some m) e = go (leb least m) (leb m most) refl refl e
   where
     go :
-        (p q : Bool) → leb least m ≡ p → leb m most ≡ q → cond (p && q) (some m) none ≡ some n →
-        (some m ≡ some n) × (least ≤ n) × (n ≤ most)
+        (p q : Bool) → leb least m ≡ p → leb m most ≡ q → cond (p && q) (Some m) None ≡ Some n →
+        (Some m ≡ Some n) × (least ≤ n) × (n ≤ most)
     go true true f g e =
         let same : m ≡ n = cc in
         (e, rw same at (leb-true least m f), rw same at (leb-true m most g))
     go true false f g e = none-some e
     go false q f g e = none-some e
-
--- what `read` answers, taken back
-pub answer-number : (n : ℕ) (o : Option ℕ) → Number n ≡ numeral_answer o → o ≡ some n
-unfolding numeral_answer
-answer-number n none e = cc
-answer-number n (some m) e = cc
-
-pub answer-refused : (o : Option ℕ) → Refused ≡ numeral_answer o → o ≡ none
-unfolding numeral_answer
-answer-refused none e = refl
-answer-refused (some m) e = cc

@@ -1,18 +1,16 @@
 -- What each way through the code comes to, over plain numbers and lists: `zero_leads`, `read` and `write`.
 -- Assumes nothing.
+use Rattle.std.specs.Prelude.{None, Option, Some}
 use Prim.Native.Nat.{ℕ, ◌+◌, ◌/◌, ◌%◌, ◌≤◌, ◌<◌}
 use mathlib.Core.Path.{◌≡◌, refl, sym, ◌∙◌}
 use mathlib.Core.Bool.{true, false}
 use mathlib.Core.List.{List, [], ◌∷◌}
-use mathlib.Core.Option.{Option, none, some}
 use native.Mathlib.Omega.{arith}
 use lib.Dec.{eqb}
 use lib.ListN.{length, get_or, drop, set}
 use borrow.Author.Tests.{le-leb, lt-leb}
 use Rattle.base.specs.promises.Writing.{Wrote}
 use Rattle.base.proofs.Lists.{drop-next, drop-end, drop-set}
-use Rattle.numeral.specs.declared.Answer.TheVariants.{Number, Refused}
-use Rattle.numeral.specs.promises.Answers.{numeral_answer}
 use Rattle.numeral.specs.Numeral.{ZERO, with_digit, digits_from, leading_zero, number, within, digits}
 use Rattle.numeral.specs.Grammar.{Digit}
 use Rattle.numeral.proofs.Reading.{from-digit, from-other, above-next}
@@ -44,39 +42,38 @@ pub read-digit :
 read-digit s i n read h d = rw (read, drop-next 0 i s) (from-digit n (get_or s i 0) (drop (i + 1) s) d)
 
 module _ (least most : ℕ) where
-  refused : (o : Option ℕ) → within least most o ≡ none → Refused ≡ numeral_answer (within least most o)
-  unfolding numeral_answer
+  refused : (o : Option ℕ) → within least most o ≡ None → None ≡ within least most o
   refused o e = rw e
 
   -- before the reading starts
-  pub refused-empty : (s : List ℕ) → length s ≡ 0 → Refused ≡ numeral_answer (within least most (number s))
+  pub refused-empty : (s : List ℕ) → length s ≡ 0 → None ≡ within least most (number s)
   unfolding number within
-  refused-empty [] e = refused none refl
+  refused-empty [] e = refused None refl
   refused-empty (b ∷ s) e = absurd (omega arith)
 
-  pub refused-leading : (s : List ℕ) → leading_zero s ≡ true → Refused ≡ numeral_answer (within least most (number s))
+  pub refused-leading : (s : List ℕ) → leading_zero s ≡ true → None ≡ within least most (number s)
   unfolding number within
-  refused-leading [] e = refused none refl
-  refused-leading (b ∷ s) e = rw e (refused none refl)
+  refused-leading [] e = refused None refl
+  refused-leading (b ∷ s) e = rw e (refused None refl)
 
   -- at a byte, and at the end
   module _ (s : List ℕ) (i n : ℕ) (read : number s ≡ digits_from n (drop i s)) where
-    pub refused-other : i < length s → (Digit (get_or s i 0) → ⊥) → Refused ≡ numeral_answer (within least most (number s))
+    pub refused-other : i < length s → (Digit (get_or s i 0) → ⊥) → None ≡ within least most (number s)
     unfolding within
     refused-other h d =
-        rw (read, drop-next 0 i s, from-other n (get_or s i 0) (drop (i + 1) s) d) (refused none refl)
+        rw (read, drop-next 0 i s, from-other n (get_or s i 0) (drop (i + 1) s) d) (refused None refl)
 
-    pub refused-above : i < length s → most < with_digit n (get_or s i 0) → Refused ≡ numeral_answer (within least most (number s))
+    pub refused-above : i < length s → most < with_digit n (get_or s i 0) → None ≡ within least most (number s)
     refused-above h k =
         let rest = get_or s i 0 ∷ drop (i + 1) s in
         rw (read, drop-next 0 i s) (refused (digits_from n rest) (above-next least most n _ _ k))
 
-    pub refused-below : length s ≤ i → n < least → Refused ≡ numeral_answer (within least most (number s))
+    pub refused-below : length s ≤ i → n < least → None ≡ within least most (number s)
     unfolding within digits_from
-    refused-below h k = rw (read, drop-end i s h) (refused (some n) (simp (lt-leb least n k)))
+    refused-below h k = rw (read, drop-end i s h) (refused (Some n) (simp (lt-leb least n k)))
 
-    pub answered : length s ≤ i → least ≤ n → n ≤ most → Number n ≡ numeral_answer (within least most (number s))
-    unfolding within digits_from numeral_answer
+    pub answered : length s ≤ i → least ≤ n → n ≤ most → Some n ≡ within least most (number s)
+    unfolding within digits_from
     answered h k l = rw (read, drop-end i s h) (simp (le-leb least n k, le-leb n most l))
 
 -- one more digit is written, at the place in front of those that are

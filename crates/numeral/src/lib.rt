@@ -4,7 +4,6 @@
 
 ghost use Rattle.std.specs.Prelude.{◌≤◌, ◌≡◌, length};
 ghost use Rattle.base.specs.promises.Writing.{Wrote};
-ghost use Rattle.numeral.specs.promises.Answers.{numeral_answer};
 ghost use Rattle.numeral.specs.Numeral.{digits, leading_zero, number, within};
 
 const BASE: u64 = 10;
@@ -13,48 +12,39 @@ const ZERO: u8 = b'0';
 
 const NINE: u8 = b'9';
 
-#[derive(Clone, Copy)]
-pub enum Answer {
-    Number(u64),
-    Refused,
-}
-
-// The number from least to most that s is the numeral of.
-pub fn read(s: &[u8], least: u64, most: u64) -> Answer
-    ensures { result ≡ numeral_answer (within least most (number s.now)) }
+// The number from least to most that s is the numeral of, if there is one.
+pub fn read(s: &[u8], least: u64, most: u64) -> Option<u64>
+    ensures { result ≡ within least most (number s.now) }
 {
     if s.len() == 0 {
-        return Answer::Refused;
+        return None;
     }
     if zero_leads(s) {
-        return Answer::Refused;
+        return None;
     }
     let tenth = most / BASE;
     let mut n: u64 = 0;
-    let mut i: usize = 0;
-    while i < s.len() {
-        let b = s[i];
+    for &b in s {
         if b < ZERO {
-            return Answer::Refused;
+            return None;
         }
         if NINE < b {
-            return Answer::Refused;
+            return None;
         }
         // A number above the maximum only grows with further digits.
         if tenth < n {
-            return Answer::Refused;
+            return None;
         }
         let digit = b as u64 - ZERO as u64;
         if most - BASE * n < digit {
-            return Answer::Refused;
+            return None;
         }
         n = BASE * n + digit;
-        i += 1;
     }
     if n < least {
-        return Answer::Refused;
+        return None;
     }
-    Answer::Number(n)
+    Some(n)
 }
 
 fn zero_leads(s: &[u8]) -> bool

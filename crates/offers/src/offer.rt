@@ -1,5 +1,5 @@
 // The capped offer of an incremental cost.
-ghost use Rattle.std.specs.Prelude.{◌≡◌, min};
+ghost use Rattle.std.specs.Prelude.{◌≡◌};
 ghost use Rattle.offers.specs.Offer.{capped as offer_capped};
 
 // A tenth of the cost is added to it, but not more than this.
@@ -14,11 +14,5 @@ pub fn capped(cost: u64) -> u64
     if cost > CEILING {
         return cost;
     }
-    least(cost + least(cost / 10, MOST_ADDED), CEILING)
-}
-
-fn least(a: u64, b: u64) -> u64
-    ensures { result ≡ min a b }
-{
-    if a < b { a } else { b }
+    (cost + (cost / 10).min(MOST_ADDED)).min(CEILING)
 }

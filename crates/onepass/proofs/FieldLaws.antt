@@ -1,19 +1,19 @@
 -- Laws of a field at a place of a file: its digits one after the other, its cell by the form, its quotes. Assumes nothing.
+use Rattle.std.specs.Prelude.{Option, Some, IfSome}
 use Rattle.std.proofs.Common.{◌≡◌, ℕ, suc, ◌+◌, ◌-◌, ◌*◌, ◌%◌, ◌^◌, ◌<◌, ◌≤◌, Bool, true, false, eqb, List, [], ◌∷◌, ◌++◌, length, get_or, drop, sym, refl, ap, ◌∙◌, pow-suc, arith, length-append, get_or-drop, eq-eqb, ne_eqb, eqb-true, le-leb}
-use mathlib.Core.Option.{Option, some}
-use native.Mathlib.Nat.{pow-le-pow_right}
+use Rattle.std.proofs.lemmas.Option.{IfSome_then}
 use Rattle.base.specs.Text.{same}
 use Rattle.base.proofs.Lists.{drop-next}
-use Rattle.base.proofs.Tests.{false-true}
 use Rattle.base.specs.promises.Counting.{one}
 use Rattle.csv_text.specs.Grammar.{TEXTDATA, above-comma, NonEscaped, Opened, Escaped, Field}
 use Rattle.csv_text.specs.Bytes.{DQUOTE}
 use Rattle.numeral.specs.Numeral.{ZERO, with_digit, number, leading_zero, digits_from, within}
 use Rattle.numeral.proofs.Reading.{digits-read, number-from, none-some}
 use Rattle.numeral.specs.Grammar.{Digit, Digits}
-use Rattle.tables.specs.Table.{numeral, signed, letter}
+use Rattle.tables.specs.declared.columns.Form.{Form}
+use Rattle.tables.specs.declared.columns.Form.TheVariants.{Numeral as numeral, Signed as signed, Letter as letter}
 use Rattle.tables.specs.Values.{MINUS, in_form, excess, one_of}
-use Rattle.onepass.specs.promises.Walk.{Run, ZeroFound, TextFound, FieldFound, Closed, form_of}
+use Rattle.onepass.specs.promises.Walk.{Run, ZeroFound, TextFound, FieldFound, Closed}
 use Rattle.onepass.specs.declared.fields.Found.{Found}
 
 -- one more byte at the end of a text
@@ -64,37 +64,12 @@ module _ (s : List ℕ) (at : ℕ) where
       one : 10 * 0 + d ≡ d
       one = omega arith
 
-  pub running-small : (i n : ℕ) → Running s at i n → i ≤ at + 9 → n < 1000000000
-  running-small i n w h = omega (arith, w.small, pow-le-pow_right {n = 10} (omega arith) {i = length w.text} {j = 9} (omega (arith, w.counted)))
-
-  pub running-over : (i n : ℕ) → Running s at i n → i ≤ length s → Run s at (record { good = true; next = i; cell = n })
-  running-over i n w h = record { text = w.text; runs = w.runs; makes = w.makes; counted = w.counted; inside = h }
-
-module _ (read : List ℕ → Option ℕ) (s : List ℕ) (at : ℕ) where
-  -- what was given up
-  pub no_text : (r : Found) → r.good ≡ false → TextFound read s at r
-  no_text r e = record { found = λ h. false-true (sym e ∙ h) }
-
-pub no_field : (read : List ℕ → Option ℕ) (s : List ℕ) (r : Found) → r.good ≡ false → FieldFound read s r
-no_field read s r e = record { found = λ h. false-true (sym e ∙ h) }
-
-pub no_zero : (s : List ℕ) (at least : ℕ) (r : Found) → r.good ≡ false → r.cell ≡ 0 → ZeroFound s at least r
-no_zero s at least r e z = record { cell = z; found = λ h. false-true (sym e ∙ h) }
-
-pub not-closed : (s : List ℕ) (t r : Found) → r.good ≡ false → Closed s t r
-not-closed s t r e = record { found = λ h. false-true (sym e ∙ h) }
-
-pub is-closed :
-    (s : List ℕ) (t : Found) (x : ℕ) → t.good ≡ true → t.next < length s → get_or s t.next 0 ≡ DQUOTE → x ≡ t.cell →
-    Closed s t (record { good = true; next = t.next + 1; cell = x })
-is-closed s t x g h e q = record { found = λ z. (g, rw (drop-next 0 t.next s h, e), q) }
-
 -- digits with no zero in front are a numeral
-number_of : (v : List ℕ) (n : ℕ) → Digits 0 v n → 0 < length v → (get_or v 0 0 ≡ ZERO → ⊥) → number v ≡ some n
+number_of : (v : List ℕ) (n : ℕ) → Digits 0 v n → 0 < length v → (get_or v 0 0 ≡ ZERO → ⊥) → number v ≡ Some n
 number_of [] n d l z = absurd (omega arith)
 number_of (b ∷ v) n d l z = number-from b v z ∙ digits-read d
 
-within-bounds : (least most n : ℕ) → least ≤ n → n ≤ most → within least most (some n) ≡ some n
+within-bounds : (least most n : ℕ) → least ≤ n → n ≤ most → within least most (Some n) ≡ Some n
 unfolding within
 within-bounds least most n l h = simp (le-leb least n l, le-leb n most h)
 
@@ -115,15 +90,12 @@ module _ (s : List ℕ) (at : ℕ) where
   unfolding in_form
   is-numeral least most r run h z l m =
       record {
-        found = λ _.
-            record {
-              text = run.text;
-              runs = run.runs;
-              means =
-                  rw (number_of run.text r.cell run.makes some-digit no-zero-leads)
-                  (within-bounds least most r.cell l m);
-              inside = run.inside;
-            };
+        text = run.text;
+        runs = run.runs;
+        means =
+            rw (number_of run.text r.cell run.makes some-digit no-zero-leads)
+            (within-bounds least most r.cell l m);
+        inside = run.inside;
       }
     where
       some-digit : 0 < length run.text
@@ -132,135 +104,108 @@ module _ (s : List ℕ) (at : ℕ) where
       no-zero-leads : get_or run.text 0 0 ≡ ZERO → ⊥
       no-zero-leads e = z (sym (head_at s at) ∙ text_head run.runs some-digit ∙ e)
 
-  pub is_zero :
+  zero-text :
       (least most : ℕ) (r : Found) → at < length s → ZeroFound s at least r → TextFound (in_form numeral least most) s at r
   unfolding in_form number leading_zero digits_from
-  is_zero least most r h w =
+  zero-text least most r h w =
       record {
-        found = λ p.
-            let (e, next, none-less) = w.found p in
-            record {
-              text = ZERO ∷ [];
-              runs =
-                  rw (drop-next 0 at s h, e, next)
-                  (NonEscaped.text {b = ZERO} (above-comma (omega arith) (omega arith)) NonEscaped.none);
-              means = rw w.cell (within-bounds least most 0 (omega arith) (omega arith));
-              inside = omega arith;
-            };
+        text = ZERO ∷ [];
+        runs =
+            rw (drop-next 0 at s h, w.byte, w.next)
+            (NonEscaped.text {b = ZERO} (above-comma (omega arith) (omega arith)) NonEscaped.none);
+        means = rw w.cell (within-bounds least most 0 (omega arith) (omega arith));
+        inside = omega arith;
       }
 
+  pub is_zero :
+      (least most : ℕ) (r : Option Found) → at < length s → IfSome r (ZeroFound s at least) →
+      IfSome r (TextFound (in_form numeral least most) s at)
+  is_zero least most r h w = IfSome_then r w (λ x z. zero-text least most x h z)
+
   pub is-letter :
-      (a b x : ℕ) → at < length s → x ≡ get_or s at 0 → 0x41 ≤ x → x ≤ 0x5A → one_of a b (x ∷ []) ≡ some x →
-      TextFound (in_form letter a b) s at (record { good = true; next = at + 1; cell = x })
+      (a b x : ℕ) → at < length s → x ≡ get_or s at 0 → 0x41 ≤ x → x ≤ 0x5A → one_of a b (x ∷ []) ≡ Some x →
+      TextFound (in_form letter a b) s at (record { next = at + 1; cell = x })
   unfolding in_form
   is-letter a b x h e l m o =
       record {
-        found = λ p. record {
-          text = x ∷ [];
-          runs = rw (drop-next 0 at s h, ← e) (NonEscaped.text {b = x} (above-comma (omega arith) (omega arith)) NonEscaped.none);
-          means = o;
-          inside = omega arith;
-        };
+        text = x ∷ [];
+        runs = rw (drop-next 0 at s h, ← e) (NonEscaped.text {b = x} (above-comma (omega arith) (omega arith)) NonEscaped.none);
+        means = o;
+        inside = omega arith;
       }
 
-pub first-letter : (a b x : ℕ) → x ≡ a → one_of a b (x ∷ []) ≡ some x
+pub first-letter : (a b x : ℕ) → x ≡ a → one_of a b (x ∷ []) ≡ Some x
 unfolding one_of same
-first-letter a b x e = simp (eq-eqb x a e) (ap some (sym e))
+first-letter a b x e = simp (eq-eqb x a e) (ap Some (sym e))
 
-pub second-letter : (a b x : ℕ) → (x ≡ a → ⊥) → x ≡ b → one_of a b (x ∷ []) ≡ some x
+pub second-letter : (a b x : ℕ) → (x ≡ a → ⊥) → x ≡ b → one_of a b (x ∷ []) ≡ Some x
 unfolding one_of same
-second-letter a b x n e = simp (ne_eqb x a n, eq-eqb x b e) (ap some (sym e))
+second-letter a b x n e = simp (ne_eqb x a n, eq-eqb x b e) (ap Some (sym e))
 
 module _ (s : List ℕ) (at minimum maximum : ℕ) where
   pub is_below :
       (r : Found) (x : ℕ) → at < length s → get_or s at 0 ≡ MINUS → TextFound (in_form numeral 1 minimum) s (at + 1) r →
-      r.good ≡ true → x ≡ minimum - r.cell → TextFound (in_form signed minimum maximum) s at (record { good = true; next = r.next; cell = x })
+      x ≡ minimum - r.cell → TextFound (in_form signed minimum maximum) s at (record { next = r.next; cell = x })
   unfolding in_form excess
-  is_below r x h e w p q =
+  is_below r x h e w q =
       record {
-        found = λ _.
-            let t = w.found p in
-            record {
-              text = MINUS ∷ t.text;
-              runs =
-                  rw (drop-next 0 at s h, e)
-                  (NonEscaped.text {b = MINUS} (above-comma (omega arith) (omega arith)) t.runs);
-              means = rw (t.means, q);
-              inside = t.inside;
-            };
+        text = MINUS ∷ w.text;
+        runs =
+            rw (drop-next 0 at s h, e)
+            (NonEscaped.text {b = MINUS} (above-comma (omega arith) (omega arith)) w.runs);
+        means = rw (w.means, q);
+        inside = w.inside;
       }
 
   above-value :
-      (v : List ℕ) (n : ℕ) → (get_or v 0 0 ≡ MINUS → ⊥) → within 0 maximum (number v) ≡ some n →
-      excess minimum maximum v ≡ some (minimum + n)
+      (v : List ℕ) (n : ℕ) → (get_or v 0 0 ≡ MINUS → ⊥) → within 0 maximum (number v) ≡ Some n →
+      excess minimum maximum v ≡ Some (minimum + n)
   unfolding excess number within
   above-value [] n h e = none-some e
   above-value (b ∷ v) n h e = rw (ne_eqb b MINUS h, e)
 
   pub is-above :
       (r : Found) (x : ℕ) → (get_or s at 0 ≡ MINUS → ⊥) → TextFound (in_form numeral 0 maximum) s at r →
-      r.good ≡ true → x ≡ minimum + r.cell → TextFound (in_form signed minimum maximum) s at (record { good = true; next = r.next; cell = x })
+      x ≡ minimum + r.cell → TextFound (in_form signed minimum maximum) s at (record { next = r.next; cell = x })
   unfolding in_form number within
-  is-above r x n w p q =
+  is-above r x n w q =
       record {
-        found = λ _.
-            let t = w.found p in
-            record {
-              text = t.text;
-              runs = t.runs;
-              means = above-value t.text r.cell (unsigned t.text t.runs t.means) t.means ∙ ap some (sym q);
-              inside = t.inside;
-            };
+        text = w.text;
+        runs = w.runs;
+        means = above-value w.text r.cell (unsigned w.text w.runs w.means) w.means ∙ ap Some (sym q);
+        inside = w.inside;
       }
     where
       unsigned :
-          (v : List ℕ) {rest : List ℕ} → NonEscaped (drop at s) v rest → within 0 maximum (number v) ≡ some r.cell →
+          (v : List ℕ) {rest : List ℕ} → NonEscaped (drop at s) v rest → within 0 maximum (number v) ≡ Some r.cell →
           get_or v 0 0 ≡ MINUS → ⊥
       unsigned [] t e z = none-some e
       unsigned (b ∷ v) t e z = n (sym (head_at s at) ∙ text_head t (omega arith) ∙ z)
 
--- a column's form by the code's number
-module _ (form a b : ℕ) (s : List ℕ) (at : ℕ) (r : Found) where
-  pub as-numeral : form ≡ 0 → TextFound (in_form numeral a b) s at r → TextFound (in_form (form_of form) a b) s at r
-  unfolding form_of
-  as-numeral e w = rw e w
-
-  pub as-signed : form ≡ 1 → TextFound (in_form signed a b) s at r → TextFound (in_form (form_of form) a b) s at r
-  unfolding form_of
-  as-signed e w = rw e w
-
-  pub as-letter :
-      (form ≡ 0 → ⊥) → (form ≡ 1 → ⊥) → TextFound (in_form letter a b) s at r → TextFound (in_form (form_of form) a b) s at r
-  unfolding form_of
-  as-letter n m w = rw (ne_eqb form 0 n, ne_eqb form 1 m) w
+-- a text by its column's form, as the code finds it
+pub as-form :
+    {form : Form} (f : Form) (a b : ℕ) (s : List ℕ) (at : ℕ) (r : Option Found) → form ≡ f →
+    IfSome r (TextFound (in_form f a b) s at) → IfSome r (TextFound (in_form form a b) s at)
+as-form f a b s at r e w = rw e w
 
 opened : {s v q r : List ℕ} → NonEscaped s v q → q ≡ DQUOTE ∷ r → Opened s v r
 opened NonEscaped.none e = rw e Opened.close
 opened (NonEscaped.text t n) e = Opened.text t (opened n e)
 
 module _ (read : List ℕ → Option ℕ) (s : List ℕ) (at : ℕ) where
-  pub is_plain : (r : Found) → at ≡ 0 → TextFound read s at r → FieldFound read s r
+  pub is_plain : (r : Option Found) → at ≡ 0 → IfSome r (TextFound read s at) → IfSome r (FieldFound read s)
   is_plain r e w =
-      record {
-        found = λ p.
-            let t = w.found p in
-            record { text = t.text; field = Field.non-escaped (rw e at t.runs); means = t.means };
-      }
+      IfSome_then r w (λ x t. record { text = t.text; field = Field.non-escaped (rw e at t.runs); means = t.means })
 
   pub is-quoted :
-      (i r : Found) → 0 < length s → at ≡ one (eqb (get_or s 0 0) DQUOTE) → (at ≡ 0 → ⊥) → TextFound read s at i →
-      Closed s i r → FieldFound read s r
-  is-quoted i r h q n w k =
-      record {
-        found = λ p.
-            let (good, ends, same-cell) = k.found p in
-            let t = w.found good in
-            record {
-              text = t.text;
-              field = whole t.text _ (opened t.runs ends);
-              means = t.means ∙ ap some (sym same-cell);
-            };
-      }
+      (i : Found) (r : Option Found) → 0 < length s → at ≡ one (eqb (get_or s 0 0) DQUOTE) → (at ≡ 0 → ⊥) →
+      TextFound read s at i → IfSome r (Closed s i) → IfSome r (FieldFound read s)
+  is-quoted i r h q n t w =
+      IfSome_then r w (λ x k. record {
+        text = t.text;
+        field = whole t.text _ (opened t.runs k.ends);
+        means = t.means ∙ ap Some (sym k.cell);
+      })
     where
       quote : (b : Bool) → eqb (get_or s 0 0) DQUOTE ≡ b → at ≡ one b → (get_or s 0 0 ≡ DQUOTE) × (at ≡ 1)
       quote true e z = (eqb-true _ _ e, z)

@@ -1,44 +1,36 @@
 -- Laws of rows at a place of a file: field by field, and row by row. Assumes nothing.
+use Rattle.std.specs.Prelude.{Some}
 use Rattle.std.proofs.Common.{◌≡◌, ℕ, suc, ◌+◌, ◌-◌, ◌*◌, ◌<◌, ◌≤◌, Bool, true, false, ltb, List, [], ◌∷◌, ◌++◌, length, get_or, take, drop, set, sym, refl, ap, ◌∙◌, append_assoc, append-nil, suc-mul, add-one, arith, length-append, length-drop, length-set, take-append-drop, length-take-le, get_or-drop, take-suc, drop-drop, take-suc-set, drop-set-lt, le-ltb, lt-ltb}
-use mathlib.Core.Option.{some}
 use Rattle.base.proofs.Tests.{false-true}
 use lib.Seq.{take-append-add, drop-append-add}
 use Rattle.base.proofs.Lists.{drop-next, drop-end, drop-back, rest-lent, rest_back}
 use Rattle.csv_text.specs.Grammar.{Field, Record}
 use Rattle.csv_text.specs.promises.Rows.{Breaks, at-end, crlf, Rows}
 use Rattle.csv_text.specs.Bytes.{COMMA, CR, LF}
-use Rattle.tables.specs.Table.{Form, numeral, signed, letter, Column, column, constraint_columns, supply_columns, schedules_columns, curves_columns, parents_columns, table, width}
+use Rattle.tables.specs.Table.{Column, column, constraint_columns, supply_columns, schedules_columns, curves_columns, parents_columns, table, width}
+use Rattle.tables.specs.declared.columns.Form.{Form}
+use Rattle.tables.specs.declared.columns.Form.TheVariants.{Numeral as numeral, Signed as signed, Letter as letter}
 use Rattle.tables.specs.Values.{value, in_form}
 use Rattle.tables.specs.promises.Laying.{room}
 use Rattle.tables.specs.declared.files.File.{File}
 use Rattle.tables.specs.declared.files.File.TheVariants.{Constraint, Supply, Schedules, Curves, Parents}
-use Rattle.tables.proofs.ColumnLaws.{form_number, form-at, minimum-at, maximum-at, minimum-small, maximum-small}
+use Rattle.tables.proofs.ColumnLaws.{form-at, minimum-at, maximum-at, minimum-small, maximum-small}
 use Rattle.tables.specs.promises.Columns.{all_columns, column_count, first_column, column_at}
 use Rattle.tables.specs.promises.RowCells.{CellsOf, RowsOf}
-use Rattle.onepass.specs.promises.Walk.{FieldFound, form_of, Ranges, Separates, SeparatorFound, RowFound, RowsFound}
+use Rattle.onepass.specs.promises.Walk.{FieldFound, Ranges, Separates, SeparatorFound, RowFound, RowsFound}
 use Rattle.onepass.specs.declared.fields.Found.{Found}
 
 -- separators
 
-pub no-separator : (s : List ℕ) (at : ℕ) (further : Bool) → SeparatorFound s at further 0
-no-separator s at further = record { found = λ h. absurd (omega arith) }
-
-pub separator-inside :
-    (s : List ℕ) (at next : ℕ) (further : Bool) → SeparatorFound s at further next → (next ≡ 0 → ⊥) → next ≤ length s
-separator-inside s at next further k z =
-    (k.found (omega arith)).1
-
 module _ (s : List ℕ) (at : ℕ) where
   pub is-comma : at < length s → get_or s at 0 ≡ COMMA → SeparatorFound s at true (at + 1)
-  is-comma h e = record { found = λ z. (rw (drop-next 0 at s h, e) Separates.comma, omega arith) }
+  is-comma h e = record { separates = rw (drop-next 0 at s h, e) Separates.comma; inside = omega arith }
 
   pub is-end : length s ≤ at → SeparatorFound s at false (length s)
   is-end h =
       record {
-        found = λ z. (
-          rw (drop-end at s h, drop-end (length s) s (omega arith)) (Separates.end at-end),
-          omega arith,
-        );
+        separates = rw (drop-end at s h, drop-end (length s) s (omega arith)) (Separates.end at-end);
+        inside = omega arith;
       }
 
   pub is-crlf :
@@ -46,21 +38,13 @@ module _ (s : List ℕ) (at : ℕ) where
   is-crlf h c l =
       let two : at + 1 + 1 ≡ at + 2 = omega arith in
       record {
-        found = λ z. (
-          rw (drop-next 0 at s (omega arith), c, drop-next 0 (at + 1) s h, l, two) (Separates.end crlf),
-          omega arith,
-        );
+        separates = rw (drop-next 0 at s (omega arith), c, drop-next 0 (at + 1) s h, l, two) (Separates.end crlf);
+        inside = omega arith;
       }
 
 -- the code's tables at a column's place
 
-form-again : (f : Form) → form_of (form_number f) ≡ f
-unfolding form_of
-form-again numeral = refl
-form-again signed = refl
-form-again letter = refl
-
-module _ (fs ls ms : List ℕ) (t : Ranges fs ls ms) (i : ℕ) where
+module _ (fs : List Form) (ls ms : List ℕ) (t : Ranges fs ls ms) (i : ℕ) where
   pub range-fits : get_or ls i 0 + get_or ms i 0 ≤ 200000000
   range-fits = rw (t.minima, t.maxima) (omega (arith, minimum-small i, maximum-small i))
 
@@ -68,10 +52,10 @@ module _ (fs ls ms : List ℕ) (t : Ranges fs ls ms) (i : ℕ) where
   unfolding all_columns constraint_columns supply_columns schedules_columns curves_columns parents_columns
   range-lengths = (ap length t.forms, ap length t.minima, ap length t.maxima)
 
-  range-value : (v : List ℕ) → in_form (form_of (get_or fs i 0)) (get_or ls i 0) (get_or ms i 0) v ≡ value (column_at i) v
+  range-value : (v : List ℕ) → in_form (get_or fs i numeral) (get_or ls i 0) (get_or ms i 0) v ≡ value (column_at i) v
   unfolding value
   range-value v =
-      rw (t.forms, t.minima, t.maxima, form-at i, minimum-at i, maximum-at i, form-again (column_at i).form)
+      rw (t.forms, t.minima, t.maxima, form-at i, minimum-at i, maximum-at i)
 
 -- s is fields of some values, a COMMA behind each, and then r
 pub data Led : List ℕ → List (List ℕ) → List ℕ → Type 0 where
@@ -102,7 +86,7 @@ part-more (still l) f (Separates.end b) = over (led-last l f) b
 
 cells-more :
     (c : Column) (v : List ℕ) {cs : List Column} {vs : List (List ℕ)} {x : ℕ} {xs : List ℕ} →
-    CellsOf cs vs xs → value c v ≡ some x → CellsOf (cs ++ c ∷ []) (vs ++ v ∷ []) (xs ++ x ∷ [])
+    CellsOf cs vs xs → value c v ≡ Some x → CellsOf (cs ++ c ∷ []) (vs ++ v ∷ []) (xs ++ x ∷ [])
 cells-more c v CellsOf.none e = CellsOf.more e CellsOf.none
 cells-more c v (CellsOf.more d w) e = CellsOf.more d (cells-more c v w e)
 
@@ -178,13 +162,11 @@ module _ (s : List ℕ) (first n : ℕ) (old new rest : List ℕ) (c : ℕ) (w :
   stored-length x = length-set new c x ∙ w.same_length
 
   pub laying-next :
-      (fs ls ms : List ℕ) (r : Found) (next : ℕ) (further : Bool) → c < n → Ranges fs ls ms → r.good ≡ true →
-      FieldFound (in_form (form_of (get_or fs (first + c) 0)) (get_or ls (first + c) 0) (get_or ms (first + c) 0)) rest r →
-      SeparatorFound rest r.next further next → further ≡ ltb (c + 1) n → (next ≡ 0 → ⊥) →
+      (fs : List Form) (ls ms : List ℕ) (r : Found) (next : ℕ) (further : Bool) → c < n → Ranges fs ls ms →
+      FieldFound (in_form (get_or fs (first + c) numeral) (get_or ls (first + c) 0) (get_or ms (first + c) 0)) rest r →
+      SeparatorFound rest r.next further next → further ≡ ltb (c + 1) n →
       LayingTo s first n old (set new c r.cell) (take (length rest - next) (drop next rest)) (c + 1)
-  laying-next fs ls ms r next further h t g q k e z =
-      let (separates, inside) = (rw e at k).found (omega arith) in
-      let d = q.found g in
+  laying-next fs ls ms r next further h t d k e =
       rw (rest-lent next rest)
       (record {
         upto = omega arith;
@@ -195,7 +177,7 @@ module _ (s : List ℕ) (first n : ℕ) (old new rest : List ℕ) (c : ℕ) (w :
         at = w.at + next;
         suffix = rw w.suffix (drop-drop next w.at s);
         shorter = omega (arith, w.shorter, length-drop next rest);
-        parts = part-more (rw (lt-ltb c n h) at w.parts) d.field separates;
+        parts = part-more (rw (lt-ltb c n h) at w.parts) d.field (rw e at k.separates);
         cells =
             rw (next-column first c (omega (arith, w.fits)), take-set new c r.cell (omega (arith, w.room, w.same_length)))
             (cells-more (column_at (first + c)) d.text w.cells (sym (range-value fs ls ms t (first + c) d.text) ∙ d.means));
@@ -215,31 +197,18 @@ module _ (s : List ℕ) (first n : ℕ) (old new rest : List ℕ) (c : ℕ) (w :
       let all : c ≡ width f = omega (arith, w.upto) in
       let (ends, row, breaks) = parted-over w.parts (le-ltb c n h) in
       record {
-        found = λ z. (
-          record {
-            values = w.values;
-            ends = ends;
-            row = row;
-            breaks = rw rest-again breaks;
-            cells = rw (← whole-columns f, ← e, ← all) w.cells;
-            inside = omega arith;
-          },
-          rw (← all) w.kept,
-        );
+        values = w.values;
+        ends = ends;
+        row = row;
+        breaks = rw rest-again breaks;
+        cells = rw (← whole-columns f, ← e, ← all) w.cells;
+        kept = rw (← all) w.kept;
+        inside = omega arith;
       }
     where
       rest-again : drop (length s - length rest) s ≡ rest
       rest-again =
           ap (λ (l : List ℕ). drop (length s - length l) s) w.suffix ∙ drop-back w.at s ∙ sym w.suffix
-
-pub no_row : (f : File) (s old new : List ℕ) → RowFound f s old new 0
-no_row f s old new = record { found = λ h. absurd (omega arith) }
-
-pub row_inside :
-    (f : File) (s old new : List ℕ) (next : ℕ) → RowFound f s old new next → (next ≡ 0 → ⊥) → next ≤ length s
-row_inside f s old new next w z =
-    let (r, same-behind) = w.found (omega arith) in
-    r.inside
 
 -- one more row
 
@@ -258,13 +227,6 @@ rows-of-more {cs = cs} {v = v} {x = x} RowsOf.none w =
 rows-of-more {x = x} (RowsOf.more {x = y} {xs = ys} u l) w =
     rw (append_assoc y ys x) (RowsOf.more u (rows-of-more l w))
 
-pub most-small : (f : File) → (table f).most_rows ≤ 4096
-most-small Constraint = omega arith
-most-small Supply = omega arith
-most-small Schedules = omega arith
-most-small Curves = omega arith
-most-small Parents = omega arith
-
 -- k rows are laid down as far as `at`, and the rest that follows them
 pub record Walked (f : File) (s old new rest : List ℕ) (at k : ℕ) : Type 0 where
   pub upto : k ≤ (table f).most_rows
@@ -275,9 +237,6 @@ pub record Walked (f : File) (s old new rest : List ℕ) (at k : ℕ) : Type 0 w
   pub read : RowsOf (table f).columns values (take at new)
   pub counted : k ≡ length values
   pub kept : drop at new ≡ drop at old
-
-pub no_rows : (f : File) (s old new : List ℕ) → RowsFound f s old new 0
-no_rows f s old new = record { found = λ h. absurd (omega arith) }
 
 module _ (f : File) (s old : List ℕ) where
   pub walked_none : room f ≤ length old → Walked f s old old s 0 0
@@ -311,10 +270,9 @@ module _ (f : File) (s old : List ℕ) where
 
     walked_next :
         (now : List ℕ) (next : ℕ) → k < (table f).most_rows → 0 < length rest → RowFound f rest (drop at new) now next →
-        (next ≡ 0 → ⊥) → length now ≡ length (drop at new) →
+        length now ≡ length (drop at new) →
         Walked f s old (take at new ++ now) (drop next rest) (at + width f) (k + 1)
-    walked_next now next h l q n e =
-        let (r, same-behind) = q.found (omega arith) in
+    walked_next now next h l r e =
         record {
           upto = omega arith;
           room = omega (arith, w.room, rows_left (table f).most_rows k h);
@@ -326,7 +284,7 @@ module _ (f : File) (s old : List ℕ) where
               rows_more (rw (drop-next 0 0 rest l) at w.rows) (rw (drop-next 0 0 rest l) at r.row) r.breaks;
           read = rw taken (rows-of-more w.read r.cells);
           counted = omega (arith, w.counted, length-append w.values (r.values ∷ []));
-          kept = dropped ∙ same-behind ∙ drop-drop (width f) at new ∙ later;
+          kept = dropped ∙ r.kept ∙ drop-drop (width f) at new ∙ later;
         }
       where
         front : length (take at new) ≡ at
@@ -344,27 +302,25 @@ module _ (f : File) (s old : List ℕ) where
     -- the next row, as lending the rest of the cells has it
     pub walked-turn :
         (now : List ℕ) (next columns : ℕ) → columns ≡ width f → k < (table f).most_rows → 0 < length rest →
-        RowFound f rest (take (length new - at) (drop at new)) now next → (next ≡ 0 → ⊥) →
+        RowFound f rest (take (length new - at) (drop at new)) now next →
         length now ≡ length (take (length new - at) (drop at new)) →
         Walked f s old (take at new ++ (now ++ drop (length new - at) (drop at new)))
         (take (length rest - next) (drop next rest))
         (at + columns) (k + 1)
-    walked-turn now next columns c h l q n e =
+    walked-turn now next columns c h l q e =
         rw (c, rest_back at new, append-nil now, rest-lent next rest)
-        (walked_next now next h l (rw (rest-lent at new) at q) n (rw (rest-lent at new) at e))
+        (walked_next now next h l (rw (rest-lent at new) at q) (rw (rest-lent at new) at e))
 
-    pub walked-over : length rest ≤ 0 → RowsFound f s old new (k + 1)
+    pub walked-over : length rest ≤ 0 → RowsFound f s old new k
     walked-over h =
         record {
-          found = λ z. record {
-            values = w.values;
-            cells = take at new;
-            rows = rw (drop-end 0 rest h) at w.rows;
-            read = w.read;
-            laid = sym (take-append-drop at new) ∙ rw (w.kept, front);
-            counted = omega (arith, w.counted);
-            most = omega (arith, w.upto);
-          };
+          values = w.values;
+          cells = take at new;
+          rows = rw (drop-end 0 rest h) at w.rows;
+          read = w.read;
+          laid = sym (take-append-drop at new) ∙ rw (w.kept, front);
+          counted = w.counted;
+          most = w.upto;
         }
       where
         front : length (take at new) ≡ at

@@ -1,11 +1,12 @@
-// One field as a part of a file that begins where the field begins, read to its cell in one go.
-ghost use Rattle.std.specs.Prelude.{◌≡◌, ◌+◌, ◌^◌, ◌<◌, ◌≤◌, min, true, false, length, ◌==◌, slice_index};
-ghost use Rattle.tables.specs.Table.{numeral as form_numeral, signed as form_signed, letter as form_letter};
+// One field as a part of a file that begins where the field begins, read to its cell in one go. Nothing
+// is found where a step gives up.
+ghost use Rattle.std.specs.Prelude.{◌≡◌, ◌+◌, ◌^◌, ◌<◌, ◌≤◌, true, length, ◌==◌, slice_index, IfSome};
+ghost use Rattle.tables.specs.declared.columns.Form.TheVariants.{Numeral as form_numeral, Signed as form_signed, Letter as form_letter};
 ghost use Rattle.tables.specs.Values.{in_form};
-ghost use Rattle.onepass.specs.promises.Walk.{Run, ZeroFound, TextFound, FieldFound, Closed, form_of};
+ghost use Rattle.onepass.specs.promises.Walk.{Run, ZeroFound, TextFound, FieldFound, Closed};
 ghost use Rattle.base.specs.promises.Counting.{one};
 
-use tables::{NUMERAL, SIGNED};
+use tables::Form;
 
 const BASE: u64 = 10;
 
@@ -26,107 +27,88 @@ const LETTER_A: u8 = b'A';
 
 const LETTER_Z: u8 = b'Z';
 
-// What was found at a place: whether it is what was looked for, where it ends, and its cell. The end
-// doesn't hang on the cell's value, so that the next field need not wait for it.
+// What was found at a place: where it ends, and its cell. The end doesn't hang on the cell's value, so
+// that the next field need not wait for it.
 #[derive(Clone, Copy)]
 pub struct Found {
-    pub good: bool,
     pub next: usize,
     pub cell: u64,
 }
 
 // The field at the start of `s`, in quotes or not.
-pub fn field(form: u8, minimum: u64, maximum: u64, s: &[u8]) -> Found
+pub fn field(form: Form, minimum: u64, maximum: u64, s: &[u8]) -> Option<Found>
     requires { minimum + maximum < 2 ^ 60 }
-    ensures { FieldFound (in_form (form_of form) minimum maximum) s.now result }
+    ensures { IfSome result (FieldFound (in_form form minimum maximum) s.now) }
 {
     if s.len() == 0 {
-        return given_up(0);
+        return None;
     }
     if begins_numeral(form, s[0]) {
         return numeral(s, 0, minimum, maximum);
     }
     let at = quote_length(s[0]);
-    let inside = text(form, minimum, maximum, s, at);
+    let inside = text(form, minimum, maximum, s, at)?;
     if at == 0 {
-        return inside;
+        return Some(inside);
     }
     closed(s, inside)
 }
 
 // Whether a field that begins with the byte can only be a numeral out of quotes, as most are.
-fn begins_numeral(form: u8, b: u8) -> bool
-    ensures { result ≡ true → form ≡ 0 }
+fn begins_numeral(form: Form, b: u8) -> bool
+    ensures { result ≡ true → form ≡ form_numeral }
 {
-    if b == DQUOTE {
-        return false;
+    match form {
+        Form::Numeral => b != DQUOTE,
+        Form::Signed => false,
+        Form::Letter => false,
     }
-    form == NUMERAL
 }
 
 // 1 where a field that begins with the byte is in quotes, else 0.
 fn quote_length(b: u8) -> usize
     ensures { result ≡ one (b == 0x22) }
 {
-    if b == DQUOTE {
-        return 1;
-    }
-    0
-}
-
-fn given_up(next: usize) -> Found
-    ensures { (result.good ≡ false) × (result.cell ≡ 0) }
-{
-    Found {
-        good: false,
-        next: next,
-        cell: 0,
-    }
+    usize::from(b == DQUOTE)
 }
 
 // Behind the quote at the end of a text.
-fn closed(s: &[u8], text: Found) -> Found
-    ensures { Closed s.now text result }
+fn closed(s: &[u8], text: Found) -> Option<Found>
+    ensures { IfSome result (Closed s.now text) }
 {
     let end = text.next;
-    if !text.good {
-        return given_up(end);
-    }
     if s.len() <= end {
-        return given_up(end);
+        return None;
     }
     if s[end] != DQUOTE {
-        return given_up(end);
+        return None;
     }
-    Found {
-        good: true,
+    Some(Found {
         next: end + 1,
         cell: text.cell,
-    }
+    })
 }
 
 // The text at a place, by its column's form.
-fn text(form: u8, minimum: u64, maximum: u64, s: &[u8], at: usize) -> Found
+fn text(form: Form, minimum: u64, maximum: u64, s: &[u8], at: usize) -> Option<Found>
     requires { minimum + maximum < 2 ^ 60 }
-    ensures { TextFound (in_form (form_of form) minimum maximum) s.now at result }
+    ensures { IfSome result (TextFound (in_form form minimum maximum) s.now at) }
 {
-    if form == NUMERAL {
-        return numeral(s, at, minimum, maximum);
+    match form {
+        Form::Numeral => numeral(s, at, minimum, maximum),
+        Form::Signed => signed(s, at, minimum, maximum),
+        Form::Letter => letter(s, at, minimum, maximum),
     }
-    if form == SIGNED {
-        return signed(s, at, minimum, maximum);
-    }
-    letter(s, at, minimum, maximum)
 }
 
 // A numeral from least to most. Digits behind a zero are left to the separator that is looked for. A byte less
 // ONE, wrapped, is below the largest digit just where it is a digit and no zero.
-fn numeral(s: &[u8], at: usize, least: u64, most: u64) -> Found
-    ensures text_found { TextFound (in_form form_numeral least most) s.now at result }
-    ensures cell_le_most { result.good ≡ true → result.cell ≤ most }
+fn numeral(s: &[u8], at: usize, least: u64, most: u64) -> Option<Found>
+    ensures text_found { IfSome result (TextFound (in_form form_numeral least most) s.now at) }
+    ensures cell_le_most { IfSome result (λ found. found.cell ≤ most) }
 {
     if s.len() <= at {
-        return given_up(at);
+        return None;
     }
     let above_one = std::num::wrapping_sub_u8(s[at], ONE);
     if LARGEST_DIGIT <= above_one {
@@ -134,102 +116,79 @@ fn numeral(s: &[u8], at: usize, least: u64, most: u64) -> Found
     }
     let run = digits(s, at, above_one as u64 + 1);
     if run.cell < least {
-        return unfit(run);
+        return None;
     }
     if most < run.cell {
-        return unfit(run);
+        return None;
     }
-    run
-}
-
-fn unfit(found: Found) -> Found
-    ensures { (result.good ≡ false) × (result.cell ≡ found.cell) }
-{
-    Found {
-        good: false,
-        next: found.next,
-        cell: found.cell,
-    }
+    Some(run)
 }
 
 // `0` at a place, where it is not below the least number.
-fn zero(s: &[u8], at: usize, least: u64) -> Found
+fn zero(s: &[u8], at: usize, least: u64) -> Option<Found>
     requires { at < length s.now }
-    ensures { ZeroFound s.now at least result }
+    ensures { IfSome result (ZeroFound s.now at least) }
 {
     if s[at] != ZERO {
-        return given_up(at);
+        return None;
     }
     if 0 < least {
-        return given_up(at);
+        return None;
     }
-    Found {
-        good: true,
+    Some(Found {
         next: at + 1,
         cell: 0,
-    }
+    })
 }
 
 // A numeral, or `-` and a nonzero numeral, in excess of the minimum's size.
-fn signed(s: &[u8], at: usize, minimum: u64, maximum: u64) -> Found
+fn signed(s: &[u8], at: usize, minimum: u64, maximum: u64) -> Option<Found>
     requires { minimum + maximum < 2 ^ 60 }
-    ensures { TextFound (in_form form_signed minimum maximum) s.now at result }
+    ensures { IfSome result (TextFound (in_form form_signed minimum maximum) s.now at) }
 {
     if s.len() <= at {
-        return given_up(at);
+        return None;
     }
     if s[at] == MINUS {
-        let below = numeral(s, at + 1, 1, minimum);
-        if !below.good {
-            return given_up(at);
-        }
-        return Found {
-            good: true,
+        let below = numeral(s, at + 1, 1, minimum)?;
+        return Some(Found {
             next: below.next,
             cell: minimum - below.cell,
-        };
+        });
     }
-    let above = numeral(s, at, 0, maximum);
-    if !above.good {
-        return given_up(at);
-    }
-    Found {
-        good: true,
+    let above = numeral(s, at, 0, maximum)?;
+    Some(Found {
         next: above.next,
         cell: minimum + above.cell,
-    }
+    })
 }
 
 // One of two capital letters, as its byte.
-fn letter(s: &[u8], at: usize, a: u64, b: u64) -> Found
-    ensures { TextFound (in_form form_letter a b) s.now at result }
+fn letter(s: &[u8], at: usize, a: u64, b: u64) -> Option<Found>
+    ensures { IfSome result (TextFound (in_form form_letter a b) s.now at) }
 {
     if s.len() <= at {
-        return given_up(at);
+        return None;
     }
     let byte = s[at];
     if byte < LETTER_A {
-        return given_up(at);
+        return None;
     }
     if LETTER_Z < byte {
-        return given_up(at);
+        return None;
     }
     let cell = byte as u64;
+    let found = Found {
+        next: at + 1,
+        cell: cell,
+    };
     if cell == a {
-        return Found {
-            good: true,
-            next: at + 1,
-            cell: cell,
-        };
+        return Some(found);
     }
     if cell == b {
-        return Found {
-            good: true,
-            next: at + 1,
-            cell: cell,
-        };
+        return Some(found);
     }
-    given_up(at)
+    None
 }
 
 // The digits from a place on, of which the first is given; one that no column has room for is left to the
@@ -241,27 +200,14 @@ fn digits(s: &[u8], at: usize, first: u64) -> Found
     ensures run { Run s.now at result }
     ensures at_lt_next { at < result.next }
 {
-    let end = at + lesser(s.len() - at, MOST_DIGITS);
+    let end = at + (s.len() - at).min(MOST_DIGITS);
     let mut n = first;
-    let mut i = at + 1;
-    while i < end {
+    for i in at + 1..end {
         let digit = std::num::wrapping_sub_u8(s[i], ZERO);
-        if digit <= LARGEST_DIGIT {
-            n = BASE * n + digit as u64;
-            i += 1;
-        } else {
-            break;
+        if LARGEST_DIGIT < digit {
+            return Found { next: i, cell: n };
         }
+        n = BASE * n + digit as u64;
     }
-    Found {
-        good: true,
-        next: i,
-        cell: n,
-    }
-}
-
-fn lesser(a: usize, b: usize) -> usize
-    ensures { result ≡ min a b }
-{
-    if a < b { a } else { b }
+    Found { next: end, cell: n }
 }

@@ -1,5 +1,6 @@
-// The header at the start of a file, as one text: all names out of quotes, or all in quotes.
-ghost use Rattle.std.specs.Prelude.{◌≡◌, true, [], ◌∷◌, ◌++◌, length, drop};
+// The header at the start of a file, as one text: all names out of quotes, or all in quotes. A place is
+// answered only where what is looked for is there.
+ghost use Rattle.std.specs.Prelude.{[], ◌∷◌, IfSome};
 ghost use Rattle.onepass.specs.promises.Walk.{HeaderFound, Begins, TextAt, quoted_byte, quoted_text};
 
 use crate::fields::DQUOTE;
@@ -9,8 +10,8 @@ use tables::{
 };
 
 // Where the rows begin, behind the header's CR LF.
-pub fn header_end(file: File, s: &[u8]) -> usize
-    ensures { HeaderFound file s.now result }
+pub fn header_end(file: File, s: &[u8]) -> Option<usize>
+    ensures { IfSome result (HeaderFound file s.now) }
 {
     match file {
         File::Constraint => either_end(s, &CONSTRAINT_HEADER),
@@ -21,39 +22,34 @@ pub fn header_end(file: File, s: &[u8]) -> usize
     }
 }
 
-// Where a header at the start of `s` ends, in quotes or not; 0 where it isn't there.
-fn either_end(s: &[u8], header: &[u8]) -> usize
-    ensures { Begins s.now header.now (quoted_text header.now) result }
+// Where a header at the start of `s` ends, in quotes or not.
+fn either_end(s: &[u8], header: &[u8]) -> Option<usize>
+    ensures { IfSome result (Begins s.now header.now (quoted_text header.now)) }
 {
-    if begins(s, header) {
-        return header.len();
+    if s.starts_with(header) {
+        return Some(header.len());
     }
-    if begins(s, &[DQUOTE]) {
+    if s.starts_with(&[DQUOTE]) {
         return quoted_end(s, header);
     }
-    0
+    None
 }
 
 // Where a header in quotes ends, behind the first quote.
-fn quoted_end(s: &[u8], header: &[u8]) -> usize
+fn quoted_end(s: &[u8], header: &[u8]) -> Option<usize>
     requires { TextAt s.now 0 (0x22 ∷ []) 1 }
-    ensures { TextAt s.now 0 (quoted_text header.now) result }
+    ensures { IfSome result (TextAt s.now 0 (quoted_text header.now)) }
 {
     let mut at = 1;
-    let mut i = 0;
-    while i < header.len() {
-        at = quoted_byte_end(s, at, header[i]);
-        if at == 0 {
-            return 0;
-        }
-        i += 1;
+    for &b in header {
+        at = quoted_byte_end(s, at, b)?;
     }
-    at
+    Some(at)
 }
 
 // Behind what a byte of a header is where its names are in quotes.
-fn quoted_byte_end(s: &[u8], at: usize, b: u8) -> usize
-    ensures { TextAt s.now at (quoted_byte b) result }
+fn quoted_byte_end(s: &[u8], at: usize, b: u8) -> Option<usize>
+    ensures { IfSome result (TextAt s.now at (quoted_byte b)) }
 {
     if b == COMMA {
         return text_end(s, at, b"\",\"");
@@ -64,31 +60,15 @@ fn quoted_byte_end(s: &[u8], at: usize, b: u8) -> usize
     text_end(s, at, &[b])
 }
 
-// Where a text at a place ends, 0 where it isn't there.
-fn text_end(s: &[u8], at: usize, text: &[u8]) -> usize
-    ensures { TextAt s.now at text.now result }
+// Where a text at a place ends.
+fn text_end(s: &[u8], at: usize, text: &[u8]) -> Option<usize>
+    ensures { IfSome result (TextAt s.now at text.now) }
 {
     if s.len() < at {
-        return 0;
+        return None;
     }
-    if begins(&s[at..], text) {
-        return at + text.len();
+    if s[at..].starts_with(text) {
+        return Some(at + text.len());
     }
-    0
-}
-
-fn begins(s: &[u8], text: &[u8]) -> bool
-    ensures { result ≡ true → s.now ≡ text.now ++ drop (length text.now) s.now }
-{
-    if s.len() < text.len() {
-        return false;
-    }
-    let mut i = 0;
-    while i < text.len() {
-        if s[i] != text[i] {
-            return false;
-        }
-        i += 1;
-    }
-    true
+    None
 }

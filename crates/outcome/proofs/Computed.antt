@@ -1,9 +1,9 @@
 -- Previews of document 01's starred example, as one table: units that its supply has and one that it hasn't, by the day that is given
 -- and by groups, and what is told before 31. Computed by the checker. Assumes nothing.
+use Rattle.std.specs.Prelude.{None, Some}
 use Prim.Native.Nat.{ℕ, zero, suc}
 use mathlib.Core.Path.{◌≡◌, refl}
 use mathlib.Core.List.{List, [], ◌∷◌}
-use mathlib.Core.Option.{none, some}
 use Rattle.base.specs.Text.{bytes}
 use Rattle.tables.specs.Refusals.{refused, bare_refusal}
 use Rattle.tables.specs.Table.{M, C}
@@ -20,10 +20,10 @@ use Rattle.outcome.proofs.Computing.{preview_all}
 use Rattle.outcome.proofs.Starred.{example_with, parents_file, engine_all}
 
 abbrev shows : AnswerRow → Previewing
-shows r = record { told = bare_refusal 0; row = some r }
+shows r = record { told = bare_refusal 0; row = Some r }
 
 abbrev refuses : Refusal → Previewing
-refuses r = record { told = r; row = none }
+refuses r = record { told = r; row = None }
 
 -- a row of unit 14, which fails, by what else it shows
 abbrev unit14 : ℕ → ℕ → ℕ → ℕ → AnswerRow
@@ -40,11 +40,11 @@ without_cost =
     []
 
 abbrev at_hour : ℕ → DayView
-at_hour h = record { hour = some h; running = [] }
+at_hour h = record { hour = Some h; running = [] }
 
 -- unit 14 runs on cost
 abbrev on_cost : DayView
-on_cost = record { hour = some 5; running = record { unit = 14; schedule = 2; kind = OnCost } ∷ [] }
+on_cost = record { hour = Some 5; running = record { unit = 14; schedule = 2; kind = OnCost } ∷ [] }
 
 -- so many units run, numbered from one on
 abbrev from : ℕ → ℕ → List RunningUnit
@@ -52,7 +52,7 @@ from u zero = []
 from u (suc n) = record { unit = u; schedule = 1; kind = OnMarket } ∷ from (suc u) n
 
 abbrev crowd : DayView
-crowd = record { hour = none; running = from 101 61 }
+crowd = record { hour = None; running = from 101 61 }
 
 pub previews :
     (previewed fresh_day (example_with [] []) 14 ≡ shows (unit14 5000000 1 M 500000))

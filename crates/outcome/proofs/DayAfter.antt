@@ -1,10 +1,10 @@
 -- The day after a study: what an accepted study makes of a day, said by who runs before and after it. Assumes nothing.
+use Rattle.std.specs.Prelude.{None, Some}
 use Prim.Native.Nat.{ℕ, ◌≤◌}
 use mathlib.Core.Path.{◌≡◌, refl, ◌∙◌, ap}
 use mathlib.Core.Logic.{◌⊎◌, inl, inr, ⊎_elim}
 use mathlib.Core.Bool.{true, false}
 use mathlib.Core.List.{List, [], ◌∷◌, map, Memᴰ as Among}
-use mathlib.Core.Option.{none, some}
 use lib.Dec.{leb}
 use lib.ListN.{length}
 use borrow.Author.Tests.{leb-true}
@@ -30,7 +30,7 @@ use Rattle.outcome.proofs.Sound.{units-rise, day-formed, files-kept, over-limit-
 -- supply file.
 pub record Commits (d : DayView) (f : Files) (after : DayView) : Type 0 where
   -- "An accepted study sets the hour"
-  pub hour-set : after.hour ≡ some (constraint_of f.constraint).hour
+  pub hour-set : after.hour ≡ Some (constraint_of f.constraint).hour
   -- "and makes each of its units running on the chosen schedule": each has a row of the answer, and runs as that row shows
   pub every-unit :
       (w : SupplyRow) → Among w (supply_of f.supply) → (r : AnswerRow) × Among r (study_rows d f) × (r.unit ≡ w.unit)
@@ -53,7 +53,7 @@ unfolding chosen
 chosen-units [] = refl
 chosen-units (r ∷ rows) = ap (λ (us : List ℕ). r.unit ∷ us) (chosen-units rows)
 
-module _ (d : DayView) (f : Files) (ok : decision_refusal d f ≡ none) where
+module _ (d : DayView) (f : Files) (ok : decision_refusal d f ≡ None) where
   all-run : map unit (map chosen (study_rows d f)) ≡ units (supply_of f.supply)
   all-run = chosen-units (study_rows d f) ∙ rw (study-rows d f) (study-rows-units d f (units (supply_of f.supply)))
 

@@ -1,8 +1,8 @@
 -- The ranges of a day's numbers, out of the fixed table. Assumes nothing.
+use Rattle.std.specs.Prelude.{Some}
 use Prim.Native.Nat.{ℕ, ◌≤◌}
 use mathlib.Core.Path.{◌≡◌, refl}
 use mathlib.Core.Bool.{true, ◌&&◌}
-use mathlib.Core.Option.{some}
 use native.Mathlib.Omega.{arith}
 use lib.Dec.{leb}
 use borrow.Author.Tests.{le-leb}
@@ -21,6 +21,6 @@ pub unit-in-range :
 unit-in-range r a b c d =
     rw (unit-range r, le-leb 1 r.unit a, le-leb r.unit 9999 b, le-leb 1 r.schedule c, le-leb r.schedule 99 d)
 
-pub hour-in-range : (h : ℕ) → h ≤ latest_hour → hour_in_range (some h) ≡ true
+pub hour-in-range : (h : ℕ) → h ≤ latest_hour → hour_in_range (Some h) ≡ true
 unfolding hour_in_range in_column
 hour-in-range h e = rw (le-leb 0 h (omega arith), le-leb h latest_hour e)

@@ -1,10 +1,10 @@
 -- Laws of a release: its refusals, and what it makes of a day, said by who runs. Assumes nothing.
+use Rattle.std.specs.Prelude.{None, Some}
 use Prim.Native.Nat.{ℕ, ◌≤◌, ◌<◌}
 use mathlib.Core.Path.{◌≡◌, refl}
 use mathlib.Core.Logic.{◌≢◌}
 use mathlib.Core.Bool.{Bool, true, false, cond, not, ◌||◌}
 use mathlib.Core.List.{List, [], ◌∷◌, Memᴰ as Among}
-use mathlib.Core.Option.{none, some}
 use native.Mathlib.Omega.{arith}
 use lib.Dec.{eqb}
 use lib.ListN.{length}
@@ -33,23 +33,23 @@ pub record Frees (d : DayView) (u : ℕ) (after : DayView) : Type 0 where
   pub well-formed : day_formed after ≡ true
 
 -- a rule that refuses nothing is kept
-pub unless-none : (t : Bool) (n : ℕ) → unless t n ≡ none → t ≡ true
+pub unless-none : (t : Bool) (n : ℕ) → unless t n ≡ None → t ≡ true
 unfolding unless
 unless-none true n e = refl
 unless-none false n e = let z : ◌≡◌ {A = ℕ} 0 1 = cc in absurd (omega arith)
 
 -- the outcomes: 24, then 23, else nothing is refused
 module _ (d : DayView) (u : ℕ) where
-  pub is-24 : day_formed d ≡ false → release_refusal d u ≡ some (bare_refusal 24)
+  pub is-24 : day_formed d ≡ false → release_refusal d u ≡ Some (bare_refusal 24)
   unfolding release_refusal unless first_of
   is-24 e = rw e
 
   module _ (f : day_formed d ≡ true) where
-    pub is-23 : runs u d.running ≡ false → release_refusal d u ≡ some (bare_refusal 23)
+    pub is-23 : runs u d.running ≡ false → release_refusal d u ≡ Some (bare_refusal 23)
     unfolding release_refusal unless first_of
     is-23 e = rw (f, e)
 
-    pub is-done : runs u d.running ≡ true → release_refusal d u ≡ none
+    pub is-done : runs u d.running ≡ true → release_refusal d u ≡ None
     unfolding release_refusal unless first_of
     is-done e = rw (f, e)
 
@@ -116,7 +116,7 @@ module _ (d : DayView) (u : ℕ) where
       other : RunningUnit → Bool
       other r = not (eqb r.unit u)
 
-  done-frees : release_refusal d u ≡ none → Frees d u (released d u)
+  done-frees : release_refusal d u ≡ None → Frees d u (released d u)
   unfolding released release_refusal
   done-frees e =
       let (formed-kept, later) = first-of-none (unless (day_formed d) 24) _ e in
@@ -128,10 +128,10 @@ module _ (d : DayView) (u : ℕ) where
   release-frees e = done-frees (told-released d u e)
 
   -- it leaves no more running than a day has places
-  pub released-few : release_refusal d u ≡ none → length (released d u).running ≤ most_running
+  pub released-few : release_refusal d u ≡ None → length (released d u).running ≤ most_running
   released-few e = (formed (released d u) (done-frees e).well-formed).few
 
   -- and one that is refused leaves the day that was given
-  pub released-same : (x : Refusal) → release_refusal d u ≡ some x → released d u ≡ d
+  pub released-same : (x : Refusal) → release_refusal d u ≡ Some x → released d u ≡ d
   unfolding released
   released-same x e = rw e

@@ -1,9 +1,9 @@
 -- A study without parents: each row stands for its own supplier, file 5 refuses nothing, and a file of its header alone is as good as
 -- none. So the rows and the refusals are those of the other files. Assumes nothing.
+use Rattle.std.specs.Prelude.{Option}
 use Prim.Native.Nat.{ℕ}
 use mathlib.Core.Path.{◌≡◌, refl, sym, ◌∙◌}
 use mathlib.Core.List.{List, [], ◌++◌, append_assoc}
-use mathlib.Core.Option.{Option}
 use Rattle.base.specs.Search.{first_of}
 use Rattle.base.proofs.FirstLaws.{first-of-between}
 use Rattle.tables.specs.Table.{header, joined, header_text, parents_columns}

@@ -1,11 +1,11 @@
 -- The numbers that refusals have: none has the number 0, so that a call is accepted exactly where it tells 0; and of a study's only
 -- that of a short buffer has the number 10. Assumes nothing.
+use Rattle.std.specs.Prelude.{None, Option, Some, option_map}
 use Prim.Native.Nat.{ℕ}
 use mathlib.Core.Path.{◌≡◌, refl, sym, ◌∙◌}
 use mathlib.Core.Logic.{◌≢◌}
 use mathlib.Core.Bool.{Bool, true, false, not, or-true}
 use mathlib.Core.List.{List, [], ◌∷◌, ◌++◌}
-use mathlib.Core.Option.{Option, none, some, map}
 use native.Mathlib.Omega.{arith}
 use lib.ListN.{length}
 use lib.Dec.{leb, eqb}
@@ -33,8 +33,8 @@ use Rattle.curves.specs.Curves.{stray_point, disordered, ends_low}
 
 -- nothing is refused, or the refusal has one of some numbers
 data Numbered (ns : List ℕ) : Option Refusal → Type 0 where
-  nothing : Numbered ns none
-  numbered : (r : Refusal) → among r.number ns ≡ true → Numbered ns (some r)
+  nothing : Numbered ns None
+  numbered : (r : Refusal) → among r.number ns ≡ true → Numbered ns (Some r)
 
 first-numbered : {ns : List ℕ} {os : List (Option Refusal)} → All (Numbered ns) os → Numbered ns (first_of os)
 unfolding first_of
@@ -46,9 +46,9 @@ both : {ns : List ℕ} {os ps : List (Option Refusal)} → All (Numbered ns) os 
 both all_none b = b
 both (all_more p a) b = all_more p (both a b)
 
-at_place : {ns : List ℕ} (n : ℕ) (f : File) (o : Option ℕ) → among n ns ≡ true → Numbered ns (map (refused n f) o)
-at_place n f none h = nothing
-at_place n f (some k) h = numbered (refused n f k) h
+at_place : {ns : List ℕ} (n : ℕ) (f : File) (o : Option ℕ) → among n ns ≡ true → Numbered ns (option_map (refused n f) o)
+at_place n f None h = nothing
+at_place n f (Some k) h = numbered (refused n f k) h
 
 bare : {ns : List ℕ} (t : Bool) (n : ℕ) → among n ns ≡ true → Numbered ns (unless t n)
 unfolding unless
@@ -64,7 +64,7 @@ one_more {n} (all_more (numbered r h) a) = all_more (numbered r (simp h (or-true
 
 -- a number that isn't one of them is that of no refusal
 not-numbered :
-    {ns : List ℕ} {o : Option Refusal} (n : ℕ) → among n ns ≡ false → Numbered ns o → (r : Refusal) → o ≡ some r → r.number ≢ n
+    {ns : List ℕ} {o : Option Refusal} (n : ℕ) → among n ns ≡ false → Numbered ns o → (r : Refusal) → o ≡ Some r → r.number ≢ n
 not-numbered n other nothing r e same = let z : ◌≡◌ {A = ℕ} 0 1 = cc in absurd (omega arith)
 not-numbered n other (numbered x h) r e same =
     let its : x.number ≡ n = cc in
@@ -149,20 +149,20 @@ preview-numbered d f u =
     both (one_more (decision-numbered d f)) (all_more (bare (any (of_unit u) (supply_of f.supply)) 31 refl) all_none)
 
 -- nothing is refused where 0 is told
-none_told : {ns : List ℕ} {o : Option Refusal} → among 0 ns ≡ false → Numbered ns o → (told o).number ≡ 0 → o ≡ none
+none_told : {ns : List ℕ} {o : Option Refusal} → among 0 ns ≡ false → Numbered ns o → (told o).number ≡ 0 → o ≡ None
 none_told other nothing e = refl
 none_told other (numbered r h) e = false-true (sym other ∙ (rw e at h))
 
 outcome-told :
     (d : DayView) (h : ℕ) (rows : List AnswerRow) (buffer : List ℕ) (o : Option Refusal) → (outcome d h rows buffer o).told ≡ told o
 unfolding outcome
-outcome-told d h rows buffer none = refl
-outcome-told d h rows buffer (some r) = refl
+outcome-told d h rows buffer None = refl
+outcome-told d h rows buffer (Some r) = refl
 
 previewing-told : (row : Option AnswerRow) (o : Option Refusal) → (previewing row o).told ≡ told o
 unfolding previewing
-previewing-told row none = refl
-previewing-told row (some r) = refl
+previewing-told row None = refl
+previewing-told row (Some r) = refl
 
 module _ (d : DayView) (f : Files) where
   -- a study tells its first refusal
@@ -170,7 +170,7 @@ module _ (d : DayView) (f : Files) where
   unfolding studied
   study-told buffer = outcome-told d _ _ buffer _
 
-  pub told-accepted : (buffer : List ℕ) → (studied d f buffer).told.number ≡ 0 → study_refusal d f (length buffer) ≡ none
+  pub told-accepted : (buffer : List ℕ) → (studied d f buffer).told.number ≡ 0 → study_refusal d f (length buffer) ≡ None
   unfolding study_refusal among
   told-accepted buffer e =
       none_told refl (first-numbered (study-numbered d f (length buffer))) (rw (study-told buffer) at e)
@@ -180,16 +180,16 @@ module _ (d : DayView) (f : Files) where
   unfolding previewed
   preview-told u = previewing-told _ _
 
-  pub told-previewed : (u : ℕ) → (previewed d f u).told.number ≡ 0 → preview_refusal d f u ≡ none
+  pub told-previewed : (u : ℕ) → (previewed d f u).told.number ≡ 0 → preview_refusal d f u ≡ None
   unfolding preview_refusal among
   told-previewed u e = none_told refl (first-numbered (preview-numbered d f u)) (rw (preview-told u) at e)
 
   -- what deciding refuses has another number than a short buffer
-  pub decision-not-10 : (r : Refusal) → decision_refusal d f ≡ some r → r.number ≢ 10
+  pub decision-not-10 : (r : Refusal) → decision_refusal d f ≡ Some r → r.number ≢ 10
   unfolding decision_refusal among
   decision-not-10 = not-numbered 10 refl (first-numbered (decision-numbered d f))
 
-pub told-released : (d : DayView) (u : ℕ) → (told (release_refusal d u)).number ≡ 0 → release_refusal d u ≡ none
+pub told-released : (d : DayView) (u : ℕ) → (told (release_refusal d u)).number ≡ 0 → release_refusal d u ≡ None
 unfolding release_refusal among
 told-released d u e =
     none_told {ns = 24 ∷ 23 ∷ []} refl

@@ -1,10 +1,10 @@
 -- The schedule rows of a unit, where the rules of refusals 6, 8 and 9 are kept: no two of one schedule share the hour, and
 -- there is one for the study hour. Assumes nothing.
+use Rattle.std.specs.Prelude.{None}
 use Prim.Native.Nat.{ℕ, suc, ◌-◌, ◌≤◌}
 use mathlib.Core.Path.{◌≡◌, sym, ◌∙◌}
 use mathlib.Core.Bool.{Bool, true, not, ◌&&◌}
 use mathlib.Core.List.{List, Memᴰ as Among}
-use mathlib.Core.Option.{none}
 use native.Mathlib.Omega.{arith}
 use lib.Dec.{eqb}
 use borrow.Author.Tests.{eq-eqb, eqb-true, not-false}
@@ -47,7 +47,7 @@ module _ (h : ℕ) (rows : List ScheduleRow) where
   unfolding schedules at_hour
   row-scheduled {r} m e = mem-those (at_hour h) m (eq-eqb r.hour h e)
 
-module _ (rows : List ScheduleRow) (agrees : schedules_at_odds rows ≡ none) where
+module _ (rows : List ScheduleRow) (agrees : schedules_at_odds rows ≡ None) where
   -- two rows of one schedule for one hour are the same row
   pub one-row :
       (a b : ScheduleRow) → Among a rows → Among b rows → a.unit ≡ b.unit → a.schedule ≡ b.schedule →
@@ -73,7 +73,7 @@ module _ (rows : List ScheduleRow) (agrees : schedules_at_odds rows ≡ none) wh
 
 -- a unit has a schedule, and each of its schedules a row for the study hour
 module _ (h : ℕ) (us : List ℕ) (rows : List ScheduleRow) (u : ℕ) (m : Among u us) where
-  has-row : unscheduled us rows ≡ none → (r : ScheduleRow) × Among r rows × (r.unit ≡ u)
+  has-row : unscheduled us rows ≡ None → (r : ScheduleRow) × Among r rows × (r.unit ≡ u)
   unfolding unscheduled
   has-row f =
       let some-row = not-false _ (none_found (λ (u : ℕ). not (any (λ (r : ScheduleRow). eqb r.unit u) rows)) f m) in
@@ -83,7 +83,7 @@ module _ (h : ℕ) (us : List ℕ) (rows : List ScheduleRow) (u : ℕ) (m : Amon
   abbrev lacks_run : ℕ → ScheduleRow → Bool
   lacks_run u r = not (has_run h (own u rows) r)
 
-  has-run : lacking h us rows ≡ none → (r : ScheduleRow) → Among r (own u rows) → has_run h (own u rows) r ≡ true
+  has-run : lacking h us rows ≡ None → (r : ScheduleRow) → Among r (own u rows) → has_run h (own u rows) r ≡ true
   unfolding lacking
   has-run f r n =
       let none-lacks = none_found (λ (u : ℕ). any (lacks_run u) (own u rows)) f m in
@@ -100,7 +100,7 @@ module _ (h : ℕ) (us : List ℕ) (rows : List ScheduleRow) (u : ℕ) (m : Amon
       (x, row-scheduled h (own u rows) {r = x} n (eqb-true x.hour h (and-snd (same_schedule r x) (eqb x.hour h) t)))
 
   pub has-schedule :
-      h ≤ last_hour → All PermittedSchedule rows → unscheduled us rows ≡ none → lacking h us rows ≡ none →
+      h ≤ last_hour → All PermittedSchedule rows → unscheduled us rows ≡ None → lacking h us rows ≡ None →
       (e : ScheduleRow) × Among e (schedules h (own u rows))
   has-schedule hour permitted scheduled whole =
       let (r, n, of-u) = has-row scheduled in

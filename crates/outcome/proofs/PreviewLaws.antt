@@ -1,5 +1,6 @@
 -- Document 02, F-2: "Its result is that of a study done on a copy of the day with a buffer long enough, refusals included." Shown for
 -- every buffer that holds the answer; and demand 3 on the row. Assumes nothing.
+use Rattle.std.specs.Prelude.{None, Option, Some}
 use Prim.Native.Nat.{ℕ, ◌≤◌, ◌<◌}
 use mathlib.Core.Path.{◌≡◌, refl, sym, ◌∙◌, ap}
 use mathlib.Core.Logic.{◌↔◌}
@@ -16,7 +17,6 @@ use mathlib.Core.List.{
   append_assoc,
   Memᴰ as Among,
 }
-use mathlib.Core.Option.{Option, none, some}
 use native.Mathlib.Omega.{arith}
 use lib.ListN.{length, take}
 use Rattle.base.specs.Search.{any}
@@ -54,7 +54,7 @@ pub record LineIn (text : List ℕ) (r : AnswerRow) : Type 0 where
 -- the row that is shown for a unit is one of the study's, and the unit's own; its line stands in the file that the study writes
 pub record ShownAsStudied (d : DayView) (f : Files) (u : ℕ) (buffer : List ℕ) : Type 0 where
   pub row : AnswerRow
-  pub is-shown : (previewed d f u).row ≡ some row
+  pub is-shown : (previewed d f u).row ≡ Some row
   pub decided : Among row (study_rows d f)
   pub its-unit : row.unit ≡ u
   pub in-file : LineIn (take (studied d f buffer).count (studied d f buffer).buffer) row
@@ -86,25 +86,25 @@ line-in {r} m =
         let (before, behind, parted) = parts m in
         (x ∷ before, behind, ap (λ (l : List AnswerRow). x ∷ l) parted)
 
-some_same : {A : Type 0} {x y : A} → some x ≡ some y → x ≡ y
+some_same : {A : Type 0} {x y : A} → Some x ≡ Some y → x ≡ y
 some_same e = cc
 
-is-supplied : (f : Files) (u : ℕ) → Among u (units (supply_of f.supply)) → not_supplied f u ≡ none
+is-supplied : (f : Files) (u : ℕ) → Among u (units (supply_of f.supply)) → not_supplied f u ≡ None
 unfolding not_supplied of_unit
 is-supplied f u m =
     unless-kept (any (of_unit u) (supply_of f.supply)) 31 (sym (among-units u (supply_of f.supply)) ∙ among-true m)
 
 module _ (d : DayView) (f : Files) (u : ℕ) where
   -- where nothing is refused
-  module _ (ok : preview_refusal d f u ≡ none) where
-    decides : decision_refusal d f ≡ none
+  module _ (ok : preview_refusal d f u ≡ None) where
+    decides : decision_refusal d f ≡ None
     decides = (accepted-both d f u ok).0
 
     supplied : any (of_unit u) (supply_of f.supply) ≡ true
     unfolding not_supplied
     supplied = unless-none _ 31 (accepted-both d f u ok).1
 
-    pub shown : (previewed d f u).row ≡ some (study_row d f u)
+    pub shown : (previewed d f u).row ≡ Some (study_row d f u)
     unfolding previewed previewing
     shown = rw ok (supplied-row d f u supplied)
 
@@ -112,18 +112,18 @@ module _ (d : DayView) (f : Files) (u : ℕ) where
     listed = unit-listed (supply_of f.supply) u supplied
 
     -- demand 3: any row is the one shown exactly when it is right for the unit
-    pub preview-right : (r : AnswerRow) → ((previewed d f u).row ≡ some r) ↔ RightFor d f u r
+    pub preview-right : (r : AnswerRow) → ((previewed d f u).row ≡ Some r) ↔ RightFor d f u r
     preview-right r = (right, only)
       where
-        right : (previewed d f u).row ≡ some r → RightFor d f u r
+        right : (previewed d f u).row ≡ Some r → RightFor d f u r
         right e =
             let same : study_row d f u ≡ r = some_same (sym shown ∙ e) in
             rw (← same) (record { its-unit = omega (arith, study-row-unit d f u); right = row-right d f decides u listed })
 
-        only : RightFor d f u r → (previewed d f u).row ≡ some r
+        only : RightFor d f u r → (previewed d f u).row ≡ Some r
         only t =
             let its : r.unit ≡ u = omega (arith, t.its-unit) in
-            shown ∙ ap some (sym (row-decided d f decides r (rw its listed) t.right ∙ ap (study_row d f) its))
+            shown ∙ ap Some (sym (row-decided d f decides r (rw its listed) t.right ∙ ap (study_row d f) its))
 
   pub as-studied : (buffer : List ℕ) → length (answer_file d f) ≤ length buffer → AsStudied d f u buffer
   unfolding answer_file
@@ -140,11 +140,11 @@ module _ (d : DayView) (f : Files) (u : ℕ) where
       alike :
           (o : Option Refusal) → decision_refusal d f ≡ o → 0 < (studied d f buffer).told.number →
           (previewed d f u).told ≡ (studied d f buffer).told
-      alike none e h = absurd (omega (arith, h, ap (λ (x : Refusal). x.number) (study-told d f buffer ∙ ap told (same ∙ e))))
-      alike (some r) e h =
+      alike None e h = absurd (omega (arith, h, ap (λ (x : Refusal). x.number) (study-told d f buffer ∙ ap told (same ∙ e))))
+      alike (Some r) e h =
           preview-told d f u ∙ ap told (refused-both d f u r e) ∙ sym (study-told d f buffer ∙ ap told (same ∙ e))
 
-      written : preview_refusal d f u ≡ none → ShownAsStudied d f u buffer
+      written : preview_refusal d f u ≡ None → ShownAsStudied d f u buffer
       written ok =
           let m : Among (study_row d f u) (study_rows d f) = rw (study-rows d f) (among-map (study_row d f) (listed ok)) in
           record {
@@ -157,10 +157,10 @@ module _ (d : DayView) (f : Files) (u : ℕ) where
 
 -- each row of an accepted study's answer is previewed for its unit
 pub every-row-previewed :
-    (d : DayView) (f : Files) → decision_refusal d f ≡ none → (r : AnswerRow) → Among r (study_rows d f) →
-    (previewed d f r.unit).row ≡ some r
+    (d : DayView) (f : Files) → decision_refusal d f ≡ None → (r : AnswerRow) → Among r (study_rows d f) →
+    (previewed d f r.unit).row ≡ Some r
 every-row-previewed d f ok r m =
     let (u, its-unit, made) = of_map (study_row d f) (units (supply_of f.supply)) (rw (study-rows d f) at m) in
     let same : r.unit ≡ u = ap (λ (x : AnswerRow). x.unit) (sym made) ∙ study-row-unit d f u in
-    let accepted : preview_refusal d f u ≡ none = not-supplied-last d f u ok ∙ is-supplied f u its-unit in
-    ap (λ (v : ℕ). (previewed d f v).row) same ∙ shown d f u accepted ∙ ap some made
+    let accepted : preview_refusal d f u ≡ None = not-supplied-last d f u ok ∙ is-supplied f u its-unit in
+    ap (λ (v : ℕ). (previewed d f v).row) same ∙ shown d f u accepted ∙ ap Some made

@@ -1,8 +1,8 @@
 -- Demand 3 on one row of the answer: the row that a study decides for a unit is right, and nothing else is. Assumes nothing.
+use Rattle.std.specs.Prelude.{None}
 use Prim.Native.Nat.{ℕ}
 use mathlib.Core.Path.{◌≡◌, refl}
 use mathlib.Core.List.{List, Memᴰ as Among}
-use mathlib.Core.Option.{none}
 use native.Mathlib.Omega.{arith}
 use Rattle.tables.specs.Rows.{SupplyRow, ScheduleRow}
 use Rattle.tables.specs.declared.answer.AnswerRow.{AnswerRow}
@@ -23,7 +23,7 @@ use Rattle.outcome.proofs.UnitSupplier.{unit_row_lem, unit-supplier}
 
 module _
     (c : ConstraintRow) (supply : List SupplyRow) (scheduled : List ScheduleRow) (running : List RunningUnit)
-    (s : Sound c supply scheduled running) (ungrouped : List SupplyRow) (agrees : supply_at_odds ungrouped ≡ none)
+    (s : Sound c supply scheduled running) (ungrouped : List SupplyRow) (agrees : supply_at_odds ungrouped ≡ None)
     (same : units supply ≡ units ungrouped)
   where
     -- the party of a unit's rows
@@ -57,7 +57,7 @@ module _
         let supplier : r.supplier ≡ (unit_row ungrouped u).supplier = omega (arith, t.supplier (unit_row ungrouped u) (unit_row_lem ungrouped u listed)) in
         rw (chosen, ← verdict, ← left, ← supplier, ← t.schedule.kind-shown)
 
-module _ (d : DayView) (f : Files) (e : decision_refusal d f ≡ none) where
+module _ (d : DayView) (f : Files) (e : decision_refusal d f ≡ None) where
   pub row-right : (u : ℕ) → Among u (units (supply_of f.supply)) → RightOf d f (study_row d f u)
   row-right =
       right (constraint_of f.constraint) (groups_of f) (scheduled_of f) d.running (sound d f e)

@@ -1,9 +1,9 @@
 -- What a row of an accepted study has running is within the ranges of a day's numbers, by what demand 3 says of the row and by
 -- the ranges of the files' rows. Assumes nothing.
+use Rattle.std.specs.Prelude.{None}
 use mathlib.Core.Path.{◌≡◌, ap}
 use mathlib.Core.Bool.{true}
 use mathlib.Core.List.{List, Memᴰ as Among}
-use mathlib.Core.Option.{none}
 use native.Mathlib.Omega.{arith}
 use Rattle.base.specs.Search.{All}
 use Rattle.base.proofs.Elements.{all-mem, all-those, those-mem}
@@ -32,7 +32,7 @@ row-permitted {c} {scheduled} {r} a t =
     all-mem (all-those _ a) (those-mem (at_hour c.hour) (own r.unit scheduled) t.right.is-eligible.of-the-unit).0
 
 pub row-in-range :
-    (d : DayView) (f : Files) → decision_refusal d f ≡ none → (r : AnswerRow) → Among r (study_rows d f) →
+    (d : DayView) (f : Files) → decision_refusal d f ≡ None → (r : AnswerRow) → Among r (study_rows d f) →
     unit_in_range (chosen r) ≡ true
 unfolding chosen shown
 row-in-range d f ok r m =

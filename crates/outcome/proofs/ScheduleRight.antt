@@ -1,11 +1,11 @@
 -- Demand 3 on a unit's schedule, kind and cost: what is chosen of the unit's own schedule rows is right, and nothing else is.
 -- Assumes nothing.
+use Rattle.std.specs.Prelude.{Option, Some}
 use Prim.Native.Nat.{ℕ}
 use mathlib.Core.Path.{◌≡◌, refl, ap}
 use mathlib.Core.Logic.{◌↔◌}
 use mathlib.Core.Bool.{true}
 use mathlib.Core.List.{List, Memᴰ as Among}
-use mathlib.Core.Option.{Option}
 use borrow.Author.Tests.{not-false}
 use Rattle.tables.specs.Rows.{SupplyRow, ScheduleRow}
 use Rattle.tables.specs.declared.answer.AnswerRow.{AnswerRow}
@@ -17,7 +17,6 @@ use Rattle.market.specs.Parties.{party}
 use Rattle.choice.specs.Right.{RightChoice}
 use Rattle.choice.specs.Schedules.{schedules, on_cost, has_any}
 use Rattle.choice.specs.declared.choices.Choice.{Choice}
-use Rattle.choice.specs.declared.choices.Chosen.TheVariants.{Schedule}
 use Rattle.choice.specs.declared.kinds.Kinds.TheVariants.{OnlyC}
 use Rattle.choice.proofs.ChoiceRight.{choice-right, choice-exists}
 use Rattle.choice.proofs.SomeEligible.{some-eligible}
@@ -38,7 +37,7 @@ module _
     RightOf u x = RightChoice (kind_running u running) (exposed_unit c supply u) c.hour (own u scheduled) x
 
     -- what is chosen is just what is right
-    chosen-exactly : (u : ℕ) (x : Choice) → (choice_of c supply scheduled running u ≡ Schedule x) ↔ RightOf u x
+    chosen-exactly : (u : ℕ) (x : Choice) → (choice_of c supply scheduled running u ≡ Some x) ↔ RightOf u x
     unfolding choice_of
     chosen-exactly u x =
         choice-right (kind_running u running) (exposed_unit c supply u) c.hour (own u scheduled)
@@ -55,7 +54,7 @@ module _
       has-cost e = not-false _ (simp e at (none_found (lacks_cost c.hour scheduled running) s.each-cost m))
 
       -- so something is chosen
-      is-chosen : (x : Choice) × (choice_of c supply scheduled running u ≡ Schedule x)
+      is-chosen : (x : Choice) × (choice_of c supply scheduled running u ≡ Some x)
       unfolding choice_of
       is-chosen =
           let hour = s.constraint.hour in

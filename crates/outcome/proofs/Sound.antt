@@ -1,9 +1,9 @@
 -- What is known of the day and the rows of a study that isn't refused. Assumes nothing.
+use Rattle.std.specs.Prelude.{None}
 use Prim.Native.Nat.{◌≤◌, ◌<◌}
 use mathlib.Core.Path.{◌≡◌, ◌∙◌}
 use mathlib.Core.Bool.{true}
 use mathlib.Core.List.{List}
-use mathlib.Core.Option.{none}
 use native.Mathlib.Omega.{arith}
 use Rattle.base.specs.Rising.{RisingFrom}
 use Rattle.base.specs.Search.{first_of, All, all_none, all_more}
@@ -34,11 +34,11 @@ pub record Sound
     : Type 0 where
   pub constraint : PermittedConstraint c
   pub schedules : All PermittedSchedule scheduled
-  pub supply-agrees : supply_at_odds supply ≡ none
-  pub schedules-agree : schedules_at_odds scheduled ≡ none
-  pub each-scheduled : unscheduled (units supply) scheduled ≡ none
-  pub whole : lacking c.hour (units supply) scheduled ≡ none
-  pub each-cost : no_cost_schedule c.hour supply scheduled running ≡ none
+  pub supply-agrees : supply_at_odds supply ≡ None
+  pub schedules-agree : schedules_at_odds scheduled ≡ None
+  pub each-scheduled : unscheduled (units supply) scheduled ≡ None
+  pub whole : lacking c.hour (units supply) scheduled ≡ None
+  pub each-cost : no_cost_schedule c.hour supply scheduled running ≡ None
 
 pub some-need :
     {c : ConstraintRow} {supply : List SupplyRow} {scheduled : List ScheduleRow} {running : List RunningUnit} →
@@ -50,15 +50,15 @@ pub some-units : {rs : List SupplyRow} → All PermittedSupply rs → All (λ (r
 some-units all_none = all_none
 some-units (all_more p a) = all_more p.some-unit (some-units a)
 
-module _ (d : DayView) (f : Files) (e : decision_refusal d f ≡ none) where
+module _ (d : DayView) (f : Files) (e : decision_refusal d f ≡ None) where
   pub day-formed : day_formed d ≡ true
   unfolding decision_refusal decision_refusals
   day-formed = unless-none (day_formed d) 24 (first-of-none _ _ e).0
 
   -- the check refuses nothing, and 20, 21 and 22 are kept
   none-refused :
-      (check_refusal f ≡ none)
-      × (first_of (rows_refusals d (constraint_of f.constraint) (supply_of f.supply) (scheduled_of f)) ≡ none)
+      (check_refusal f ≡ None)
+      × (first_of (rows_refusals d (constraint_of f.constraint) (supply_of f.supply) (scheduled_of f)) ≡ None)
   unfolding decision_refusal decision_refusals check_refusal
   none-refused = first-of-parts-none (check_refusals f) _ (first-of-none (unless (day_formed d) 24) _ e).1
 
@@ -78,18 +78,18 @@ module _ (d : DayView) (f : Files) (e : decision_refusal d f ≡ none) where
   unfolding groups_of
   groups-permitted = grouped-permitted files-kept.parents-permitted files-kept.supply-permitted
 
-  groups-agree : supply_at_odds (groups_of f) ≡ none
+  groups-agree : supply_at_odds (groups_of f) ≡ None
   unfolding groups_of
   groups-agree = grouped-agree (parents_of f.parents) (supply_of f.supply) files-kept.supply-agrees
 
-  cost-kept : no_cost_schedule (constraint_of f.constraint).hour (supply_of f.supply) (scheduled_of f) d.running ≡ none
+  cost-kept : no_cost_schedule (constraint_of f.constraint).hour (supply_of f.supply) (scheduled_of f) d.running ≡ None
   unfolding rows_refusals
   cost-kept =
       option-map-none (refused 21 Schedules)
       (no_cost_schedule (constraint_of f.constraint).hour (supply_of f.supply) (scheduled_of f) d.running)
       (first-of-none _ _ (first-of-none _ _ none-refused.1).1).0
 
-  pub over-limit-kept : too_many_running d (units (supply_of f.supply)) ≡ none
+  pub over-limit-kept : too_many_running d (units (supply_of f.supply)) ≡ None
   unfolding rows_refusals
   over-limit-kept = (first-of-none _ _ (first-of-none _ _ (first-of-none _ _ none-refused.1).1).1).0
 

@@ -1,10 +1,10 @@
 -- The starred examples of document 01 as one table, and behind it our own for document 02: what the definitions give, computed by
 -- the checker. Assumes nothing.
+use Rattle.std.specs.Prelude.{None}
 use Prim.Native.Nat.{ℕ}
 use mathlib.Core.Path.{◌≡◌, refl}
 use mathlib.Core.Bool.{true, false}
 use mathlib.Core.List.{List, [], ◌∷◌, map}
-use mathlib.Core.Option.{none}
 use Rattle.base.specs.Rising.{among}
 use Rattle.base.specs.Search.{those}
 use Rattle.base.specs.Text.{bytes}
@@ -87,7 +87,7 @@ pub starred :
     × (tested (5 ∷ 5 ∷ []) 0 1 ≡ shows 0 F)
     × (map offer (map at_cost (91 ∷ 137 ∷ 138 ∷ [])) ≡ 100 ∷ 150 ∷ 151 ∷ [])
     × (map (relevant 1 (at_cost 91)) (map at_cost (137 ∷ 138 ∷ [])) ≡ true ∷ false ∷ [])
-    × (decision_refusal fresh_day (example_with [] []) ≡ none)
+    × (decision_refusal fresh_day (example_with [] []) ≡ None)
     × (answer_file fresh_day (example_with [] []) ≡ answer_example)
 unfolding engine_all
 starred = (refl, refl, refl, refl, refl, refl, refl, refl)
@@ -103,7 +103,7 @@ grouped_example =
     "unit,supplier,verdict,left,schedule,kind,cost\r\n11,1,F,0,2,C,1030000\r\n12,2,F,0,1,M,330000\r\n13,3,F,0,1,C,890000\r\n14,4,F,0,1,M,500000\r\n"
 
 pub grouped-example :
-    (decision_refusal fresh_day (example_with [] parents_file) ≡ none) × (answer_file fresh_day (example_with [] parents_file) ≡ grouped_example)
+    (decision_refusal fresh_day (example_with [] parents_file) ≡ None) × (answer_file fresh_day (example_with [] parents_file) ≡ grouped_example)
 unfolding engine_all
 grouped-example = (refl, refl)
 
@@ -118,6 +118,6 @@ curved_example =
     "unit,supplier,verdict,left,schedule,kind,cost\r\n11,1,F,0,2,C,920000\r\n12,2,F,0,1,M,330000\r\n13,3,F,0,1,C,890000\r\n14,4,F,5000000,1,M,500000\r\n"
 
 pub curved-example :
-    (decision_refusal fresh_day (example_with curves_file []) ≡ none) × (answer_file fresh_day (example_with curves_file []) ≡ curved_example)
+    (decision_refusal fresh_day (example_with curves_file []) ≡ None) × (answer_file fresh_day (example_with curves_file []) ≡ curved_example)
 unfolding engine_all
 curved-example = (refl, refl)

@@ -1,8 +1,8 @@
 -- The bytes of an accepted study: those that it counts from the start of the lent buffer are its answer file. Assumes nothing.
+use Rattle.std.specs.Prelude.{None}
 use Prim.Native.Nat.{ℕ, ◌≤◌}
 use mathlib.Core.Path.{◌≡◌, refl}
 use mathlib.Core.List.{List, ◌++◌}
-use mathlib.Core.Option.{none}
 use native.Mathlib.Omega.{arith}
 use lib.ListN.{length, take, drop, length-append}
 use lib.Seq.{take_at}
@@ -11,7 +11,7 @@ use Rattle.checking.specs.Files.{Files}
 use Rattle.outcome.specs.Day.{DayView}
 use Rattle.outcome.specs.Study.{outcome, answer_file, study_refusal, studied}
 
-module _ (d : DayView) (f : Files) (buffer : List ℕ) (ok : study_refusal d f (length buffer) ≡ none) where
+module _ (d : DayView) (f : Files) (buffer : List ℕ) (ok : study_refusal d f (length buffer) ≡ None) where
   counted : (studied d f buffer).count ≡ length (answer_file d f)
   unfolding studied outcome answer_file
   counted = rw ok

@@ -1,9 +1,9 @@
 -- The supplier of a unit: each unit of the file has a row, and all its rows have one supplier. Assumes nothing.
+use Rattle.std.specs.Prelude.{None}
 use Prim.Native.Nat.{ℕ}
 use mathlib.Core.Path.{◌≡◌, sym, ◌∙◌}
 use mathlib.Core.Bool.{true, false, ◌&&◌}
 use mathlib.Core.List.{List, Memᴰ as Among}
-use mathlib.Core.Option.{none}
 use lib.Dec.{eqb}
 use borrow.Author.Tests.{eq-eqb, eqb-true, not-false}
 use Rattle.base.proofs.Tests.{and-fst, and-snd}
@@ -32,7 +32,7 @@ not-at-odds r e u f =
     }
 
 pub unit-shares :
-    (rows : List SupplyRow) → supply_at_odds rows ≡ none → (r e : SupplyRow) → Among r rows → Among e rows → r.unit ≡ e.unit →
+    (rows : List SupplyRow) → supply_at_odds rows ≡ None → (r e : SupplyRow) → Among r rows → Among e rows → r.unit ≡ e.unit →
     Shares r e
 unfolding supply_at_odds
 unit-shares rows f r e m n u = go (agree supply_odds 1 f m n)
@@ -53,7 +53,7 @@ unit_row_lem rows u m =
 
 -- and each of its rows has the supplier of that one
 pub unit-supplier :
-    (rows : List SupplyRow) → supply_at_odds rows ≡ none → (u : ℕ) → Among u (units rows) →
+    (rows : List SupplyRow) → supply_at_odds rows ≡ None → (u : ℕ) → Among u (units rows) →
     (w : SupplyRow) → RowOf rows u w → (unit_row rows u).supplier ≡ w.supplier
 unit-supplier rows f u m w i =
     let j = unit_row_lem rows u m in

@@ -2,8 +2,7 @@
 -- "A day holds the hour of the last accepted study (none in a fresh one) and the running units, at most 64, each with kind and
 -- schedule, by rising unit number. These limits belong to the day itself. A day with more than 64 units, units not strictly
 -- rising, or a number outside its column's range is ill-formed." Assumes nothing.
-use Rattle.std.specs.Prelude.{ℕ, ◌+◌, Bool, true, false, cond, not, ◌&&◌, List, [], ◌∷◌, leb, ltb, eqb, length}
-use Rattle.std.proofs.Math.Option.{Option, none, some}
+use Rattle.std.specs.Prelude.{ℕ, ◌+◌, Bool, true, false, cond, not, ◌&&◌, List, [], ◌∷◌, leb, ltb, eqb, length, None, Option, Some}
 use Rattle.base.specs.Search.{any, those, first_of}
 use Rattle.tables.specs.Table.{hour_column, unit_column, schedule_column}
 use Rattle.tables.specs.declared.files.Kind.{Kind}
@@ -25,8 +24,8 @@ abbrev pub most_running : ℕ
 most_running = 64
 
 unfoldable pub hour_in_range : Option ℕ → Bool
-hour_in_range none = true
-hour_in_range (some h) = in_column hour_column h
+hour_in_range None = true
+hour_in_range (Some h) = in_column hour_column h
 
 unfoldable pub unit_in_range : RunningUnit → Bool
 unit_in_range r = in_column unit_column r.unit && in_column schedule_column r.schedule
@@ -42,7 +41,7 @@ day_formed d = leb (length d.running) most_running && hour_in_range d.hour && ri
 
 -- a fresh day
 unfoldable pub fresh_day : DayView
-fresh_day = record { hour = none; running = [] }
+fresh_day = record { hour = None; running = [] }
 
 -- whether a unit runs
 unfoldable pub runs : ℕ → List RunningUnit → Bool
@@ -61,8 +60,8 @@ unfoldable pub released : DayView → ℕ → DayView
 released d u = after (release_refusal d u)
   where
     after : Option Refusal → DayView
-    after none = without u d
-    after (some r) = d
+    after None = without u d
+    after (Some r) = d
 
 -- a unit put among running units by rising number, in place of itself where it runs
 unfoldable pub put : RunningUnit → List RunningUnit → List RunningUnit
@@ -78,19 +77,19 @@ put_all (c ∷ cs) rs = put_all cs (put c rs)
 -- "An accepted study sets the hour and makes each of its units running on the chosen schedule; every other running unit
 -- stays as it was."
 unfoldable pub committed : ℕ → List RunningUnit → DayView → DayView
-committed h cs d = record { hour = some h; running = put_all cs d.running }
+committed h cs d = record { hour = Some h; running = put_all cs d.running }
 
 -- 20: "hour earlier than the day's"
 unfoldable pub earlier : ℕ → Option ℕ → Bool
-earlier h none = false
-earlier h (some last) = ltb h last
+earlier h None = false
+earlier h (Some last) = ltb h last
 
 -- the kind on which a unit runs, none where it doesn't
 unfoldable pub kind_running : ℕ → List RunningUnit → Option Kind
-kind_running u [] = none
+kind_running u [] = None
 kind_running u (r ∷ rs) =
     let more = kind_running u rs in
-    cond (eqb r.unit u) (some r.kind) more
+    cond (eqb r.unit u) (Some r.kind) more
 
 -- 22: "more than 64 units would run", those that run and those studied that don't run yet
 unfoldable pub would_run : List ℕ → List RunningUnit → ℕ

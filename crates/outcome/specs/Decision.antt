@@ -2,8 +2,7 @@
 -- rows of its files and the running units of the day it is given. Document 02, F-6: "The head stands in for the supplier in the
 -- test; the answer keeps the number from the supply file." So `supply` here are the rows by groups, and `ungrouped` those of the
 -- supply file. Assumes nothing.
-use Rattle.std.specs.Prelude.{ℕ, Bool, cond, ◌&&◌, not, List, map, eqb}
-use Rattle.std.proofs.Math.Option.{Option, get_or}
+use Rattle.std.specs.Prelude.{ℕ, Bool, cond, ◌&&◌, not, List, map, eqb, None, Option, Some, unwrap_or}
 use Rattle.base.specs.Search.{any, find}
 use Rattle.numbers.specs.Numbers.{place_of}
 use Rattle.tables.specs.Rows.{SupplyRow, ScheduleRow, letter_of}
@@ -21,8 +20,6 @@ use Rattle.choice.specs.Choosing.{choice}
 use Rattle.choice.specs.Exposure.{exposed}
 use Rattle.choice.specs.Schedules.{schedules, on_cost, has_any}
 use Rattle.choice.specs.declared.choices.Choice.{Choice}
-use Rattle.choice.specs.declared.choices.Chosen.{Chosen}
-use Rattle.choice.specs.declared.choices.Chosen.TheVariants.{Schedule, Nothing}
 use Rattle.choice.specs.declared.kinds.Kinds.TheVariants.{OnlyC}
 use Rattle.outcome.specs.Day.{RunningUnit, kind_running}
 
@@ -31,7 +28,7 @@ of_unit u r = eqb r.unit u
 
 -- a row of the unit: its rows share supplier and dfax
 unfoldable pub unit_row : List SupplyRow → ℕ → SupplyRow
-unit_row supply u = get_or (find (of_unit u) supply) no_row
+unit_row supply u = unwrap_or (find (of_unit u) supply) no_row
 
 module _ (c : ConstraintRow) (supply : List SupplyRow) where
   -- "the test cannot be performed"
@@ -67,12 +64,12 @@ module _ (c : ConstraintRow) (supply : List SupplyRow) where
 abbrev pub no_choice : Choice
 no_choice = record { schedule = 0; kind = C; cost = 0 }
 
-abbrev pub chosen_or : Chosen → Choice
-chosen_or Nothing = no_choice
-chosen_or (Schedule s) = s
+abbrev pub chosen_or : Option Choice → Choice
+chosen_or None = no_choice
+chosen_or (Some s) = s
 
 module _ (c : ConstraintRow) (supply : List SupplyRow) (scheduled : List ScheduleRow) (running : List RunningUnit) where
-  unfoldable pub choice_of : ℕ → Chosen
+  unfoldable pub choice_of : ℕ → Option Choice
   choice_of u = choice (kind_running u running) (exposed_unit c supply u) c.hour (own u scheduled)
 
   -- a unit's row goes by the market, the day's kind for the unit and the unit's own schedule rows, and nothing else

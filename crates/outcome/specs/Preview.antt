@@ -1,8 +1,7 @@
 -- Document 02, F-2: "The preview takes what a study takes but no buffer, and a unit number, and gives that unit's answer row as
 -- fields. Its result is that of a study done on a copy of the day with a buffer long enough, refusals included. It refuses with 31
 -- when the unit isn't in the supply file, after all others." No day comes of it, since none moves. Assumes nothing.
-use Rattle.std.specs.Prelude.{ℕ, List, [], ◌∷◌, ◌++◌, eqb}
-use Rattle.std.proofs.Math.Option.{Option, none, some}
+use Rattle.std.specs.Prelude.{ℕ, List, [], ◌∷◌, ◌++◌, eqb, None, Option, Some}
 use Rattle.base.specs.Search.{any, find, first_of}
 use Rattle.tables.specs.declared.answer.AnswerRow.{AnswerRow}
 use Rattle.tables.specs.declared.files.Refusal.{Refusal}
@@ -18,8 +17,8 @@ pub record Previewing : Type 0 where
   pub row : Option AnswerRow
 
 unfoldable pub previewing : Option AnswerRow → Option Refusal → Previewing
-previewing row (some r) = record { told = r; row = none }
-previewing row none = record { told = bare_refusal 0; row = row }
+previewing row (Some r) = record { told = r; row = None }
+previewing row None = record { told = bare_refusal 0; row = row }
 
 -- a unit's row among those of an answer
 unfoldable pub row_for : ℕ → List AnswerRow → Option AnswerRow

@@ -1,9 +1,7 @@
 -- Document 01: the whole outcome of a study, for any day, any files and any lent buffer: the refusals as one list, "24; then
 -- file by file 1, 2, 4, 3, 5, 6, 7, each over the whole file; then 8, 9, 20, 21, 22, 10", with those of document 02's files
 -- among them, the day afterwards and every byte of the buffer. Assumes nothing.
-use Rattle.std.specs.Prelude.{ℕ, not, List, [], ◌∷◌, ◌++◌, map, leb, length}
-use Rattle.std.proofs.Math.Option
-use Rattle.std.proofs.Math.Option.{Option, none, some}
+use Rattle.std.specs.Prelude.{ℕ, not, List, [], ◌∷◌, ◌++◌, map, leb, length, None, Option, Some, option_map}
 use Rattle.base.specs.Search.{first_of}
 use Rattle.base.specs.Text.{written}
 use Rattle.tables.specs.Rows.{SupplyRow, ScheduleRow, kind_of}
@@ -32,8 +30,8 @@ pub record Outcome : Type 0 where
 -- "A refused call returns the day it was given and changes no byte of the answer buffer." "An accepted study sets the hour and
 -- makes each of its units running on the chosen schedule; every other running unit stays as it was."
 unfoldable pub outcome : DayView → ℕ → List AnswerRow → List ℕ → Option Refusal → Outcome
-outcome d h rows buffer (some r) = record { told = r; count = 0; day = d; buffer = buffer }
-outcome d h rows buffer none =
+outcome d h rows buffer (Some r) = record { told = r; count = 0; day = d; buffer = buffer }
+outcome d h rows buffer None =
     record {
       told = bare_refusal 0;
       count = length (answer_text rows);
@@ -53,7 +51,7 @@ short_buffer rows room = unless (leb (length (answer_text rows)) room) 10
 unfoldable pub rows_refusals : DayView → ConstraintRow → List SupplyRow → List ScheduleRow → List (Option Refusal)
 rows_refusals d c supply scheduled =
     unless (not (earlier c.hour d.hour)) 20
-    ∷ Option.map (refused 21 Schedules) (no_cost_schedule c.hour supply scheduled d.running)
+    ∷ option_map (refused 21 Schedules) (no_cost_schedule c.hour supply scheduled d.running)
     ∷ too_many_running d (units supply)
     ∷ []
 

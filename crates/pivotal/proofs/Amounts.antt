@@ -1,5 +1,5 @@
 -- Laws of totals, of amounts taken away and of the two largest amounts. Assumes nothing.
-use Prim.Native.Nat.{ℕ, zero, suc, ◌+◌, ◌≤◌, min, max}
+use Prim.Native.Nat.{ℕ, zero, suc, ◌+◌, ◌≤◌}
 use mathlib.Core.Path.{◌≡◌, refl, sym, ◌∙◌, ap}
 use mathlib.Core.Logic.{◌≢◌, ◌⊎◌, inl, inr, ⊎_elim}
 use mathlib.Core.List.{List, [], ◌∷◌}
@@ -32,13 +32,6 @@ set-gone (a ∷ s) (suc p) = set-gone s p
 -- the two largest together
 unfoldable pub both : Largest → ℕ
 both l = l.first + l.second
-
--- the two largest with one amount more, each by itself
-pub largest-with :
-    (l : Largest) (a f g : ℕ) → f ≡ max l.first a → g ≡ max l.second (min l.first a) →
-    record { first = f; second = g } ≡ largest_with l a
-unfolding largest_with
-largest-with l a f g d e = rw (d, e)
 
 -- what the amount a makes of the two largest l
 record Feeds (l : Largest) (a : ℕ) (m : Largest) : Type 0 where

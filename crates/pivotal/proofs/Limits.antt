@@ -1,5 +1,7 @@
 -- Laws of the limits of refusal 11: amounts that are within them, amounts that are not, and what the test answers of each.
 -- Assumes nothing.
+use Rattle.std.specs.Prelude.{None, Some}
+use Rattle.pivotal.specs.declared.Tested.{Tested}
 use Prim.Native.Nat.{ℕ, ◌*◌, ◌≤◌, ◌<◌}
 use mathlib.Core.Path.{◌≡◌, refl, ◌∙◌, ap}
 use mathlib.Core.Bool.{Bool, true, false, cond}
@@ -11,7 +13,6 @@ use borrow.Author.Tests.{lt-ltb, le-ltb, ltb-false, le-leb, lt-leb}
 use Rattle.base.proofs.Tests.{or_fst, or_snd}
 use Rattle.tables.specs.Refusals.{bare_refusal}
 use Rattle.pivotal.specs.Test.{P, F, verdict_letter, total, left, pivotal, test_verdict, most_amounts, most_amount, too_large, out_of_bounds, TestOutcome, finding, test_outcome, tested}
-use Rattle.pivotal.specs.declared.Answer.TheVariants.{Tested, Refused}
 use Rattle.pivotal.specs.declared.Finding.{Finding}
 use Rattle.pivotal.specs.declared.Finding.TheVariants.{Passes, Fails}
 
@@ -60,10 +61,10 @@ module _ (s : List ℕ) (p need : ℕ) where
 
 -- what an answer says where the test is not refused
 module _ (s : List ℕ) (p need : ℕ) (limited : Limited s) (h : p < length s) where
-  pub answered : (l : ℕ) (v : Finding) → test_outcome (Tested l v) ≡ tested s p need → (l ≡ left s p) × (finding v ≡ test_verdict (left s p) need)
-  answered l v e =
+  pub answered : (t : Tested) → test_outcome (Some t) ≡ tested s p need → (t.left ≡ left s p) × (finding t.found ≡ test_verdict (left s p) need)
+  answered t e =
       let same = e ∙ tested-within s p need limited h in
-      (ap (λ (o : TestOutcome). o.left) same, go v (pivotal (left s p) need) (ap (λ (o : TestOutcome). o.verdict) same))
+      (ap (λ (o : TestOutcome). o.left) same, go t.found (pivotal (left s p) need) (ap (λ (o : TestOutcome). o.verdict) same))
     where
       go : (v : Finding) (t : Bool) → verdict_letter (finding v) ≡ verdict_letter (cond t F P) → finding v ≡ cond t F P
       go Passes false f = refl
@@ -71,5 +72,5 @@ module _ (s : List ℕ) (p need : ℕ) (limited : Limited s) (h : p < length s) 
       go Fails true f = refl
       go Fails false f = absurd (omega (arith, f))
 
-  pub not-refused : test_outcome Refused ≡ tested s p need → ⊥
+  pub not-refused : test_outcome None ≡ tested s p need → ⊥
   not-refused e = omega (arith, ap (λ (o : TestOutcome). o.told.number) (e ∙ tested-within s p need limited h))

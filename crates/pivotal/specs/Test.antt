@@ -1,12 +1,11 @@
 -- The pivotal test, by document 01, "Market and verdict", point 5, and refusal 11: amounts, one per supplier, the place
 -- of the supplier tested, and the need. To take a supplier away is to put 0 in its place.
 -- Assumes nothing; that left is the least that any removal leaves is shown in `proofs/Least`.
-use Rattle.std.specs.Prelude.{ℕ, ◌+◌, ◌-◌, ◌^◌, min, max, Bool, false, cond, ◌||◌, List, [], ◌∷◌, ltb, leb, length, set}
+use Rattle.std.specs.Prelude.{ℕ, ◌+◌, ◌-◌, ◌^◌, min, max, Bool, false, cond, ◌||◌, List, [], ◌∷◌, ltb, leb, length, set, Option, Some, None}
 use Rattle.tables.specs.Refusals.{bare_refusal}
 use Rattle.tables.specs.declared.files.Refusal.{Refusal}
-use Rattle.pivotal.specs.declared.Answer.{Answer}
-use Rattle.pivotal.specs.declared.Answer.TheVariants.{Tested, Refused}
 use Rattle.pivotal.specs.declared.Finding.{Finding}
+use Rattle.pivotal.specs.declared.Tested.{Tested}
 use Rattle.pivotal.specs.declared.Finding.TheVariants.{Passes, Fails}
 use Rattle.pivotal.specs.declared.feeding.Largest.{Largest}
 
@@ -77,9 +76,9 @@ abbrev pub finding : Finding → Verdict
 finding Passes = P
 finding Fails = F
 
-abbrev pub test_outcome : Answer → TestOutcome
-test_outcome (Tested l v) = record { told = bare_refusal 0; left = l; verdict = verdict_letter (finding v) }
-test_outcome Refused = record { told = bare_refusal 11; left = 0; verdict = 0 }
+abbrev pub test_outcome : Option Tested → TestOutcome
+test_outcome (Some t) = record { told = bare_refusal 0; left = t.left; verdict = verdict_letter (finding t.found) }
+test_outcome None = record { told = bare_refusal 11; left = 0; verdict = 0 }
 
 -- "it answers left and P or F", or refuses
 unfoldable pub tested : List ℕ → ℕ → ℕ → TestOutcome

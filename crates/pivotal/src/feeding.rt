@@ -1,11 +1,11 @@
 // The pivotal test fed one amount a call: begun with a place and a need, given the suppliers' amounts one
 // after the other, then asked. Between calls it is six plain numbers. Assumes nothing of them: one
 // that was not begun and fed here answers something, and no sum of it passes 64 bits.
-ghost use Rattle.std.specs.Prelude.{◌≡◌, ◌-◌, min, max};
+ghost use Rattle.std.specs.Prelude.{◌≡◌};
 ghost use Rattle.pivotal.specs.Test.{finding, test_outcome, test_verdict, largest_with};
 ghost use Rattle.pivotal.specs.Fed.{begun, takes as fed_takes, other as fed_other, fed, Answers};
 
-use crate::{Answer, Finding};
+use crate::{Finding, Tested};
 
 // The most amounts that are tested together, the most that one may be, and the most that they come to.
 const AMOUNTS: u64 = 32;
@@ -29,10 +29,10 @@ impl Largest {
     fn with(self, amount: u64) -> Largest
         ensures { result ≡ largest_with self amount }
     {
-        let displaced = lesser(self.first, amount);
+        let displaced = self.first.min(amount);
         Largest {
-            first: greater(self.first, amount),
-            second: greater(self.second, displaced),
+            first: self.first.max(amount),
+            second: self.second.max(displaced),
         }
     }
 }
@@ -91,19 +91,25 @@ impl FedTest {
         }
     }
 
-    // What the test of the amounts given so far answers.
-    pub fn ask(self) -> Answer
+    // What the test of the amounts given so far answers; nothing where it is refused.
+    pub fn ask(self) -> Option<Tested>
         ensures { Answers self (test_outcome result) }
     {
         if AMOUNTS < self.count {
-            return Answer::Refused;
+            return None;
         }
         if self.count <= self.place {
-            return Answer::Refused;
+            return None;
         }
         let largest = self.largest;
-        let left = less(less(self.total, largest.first), largest.second);
-        Answer::Tested(left, found(left, self.need))
+        let left = self
+            .total
+            .saturating_sub(largest.first)
+            .saturating_sub(largest.second);
+        Some(Tested {
+            left,
+            found: found(left, self.need),
+        })
     }
 
     // Whether one amount more is within the limits.
@@ -119,25 +125,6 @@ impl FedTest {
     {
         if self.count == self.place { 0 } else { amount }
     }
-}
-
-fn greater(a: u64, b: u64) -> u64
-    ensures { result ≡ max a b }
-{
-    if a < b { b } else { a }
-}
-
-fn lesser(a: u64, b: u64) -> u64
-    ensures { result ≡ min a b }
-{
-    if a < b { a } else { b }
-}
-
-// The difference, 0 where there is none.
-fn less(a: u64, b: u64) -> u64
-    ensures { result ≡ a - b }
-{
-    if a < b { 0 } else { a - b }
 }
 
 // What was found of a supplier without which `left` remains.

@@ -17,22 +17,21 @@ pub enum Finding {
     Fails,
 }
 
-// What the test answers: what is left, and what was found.
+// What the test finds of amounts, a place and a need that are within the limits: what is left, and whether the
+// supplier passes.
 #[derive(Clone, Copy)]
-pub enum Answer {
-    Tested(u64, Finding),
-    Refused,
+pub struct Tested {
+    pub left: u64,
+    pub found: Finding,
 }
 
-// The test of the supplier at `place`.
-pub fn test(amounts: &[u64], place: usize, need: u64) -> Answer
+// The test of the supplier at `place`; nothing where it is refused.
+pub fn test(amounts: &[u64], place: usize, need: u64) -> Option<Tested>
     ensures { test_outcome result ≡ tested amounts.now place need }
 {
     let mut fed = FedTest::begin(place as u64, need);
-    let mut i = 0;
-    while i < amounts.len() {
-        fed = fed.feed(amounts[i]);
-        i += 1;
+    for amount in amounts {
+        fed = fed.feed(*amount);
     }
     fed.ask()
 }

@@ -1,67 +1,73 @@
 -- Laws of places: the search for a unit, and the places that move forward where one is taken out. Assumes nothing.
-use Prim.Native.Nat.{ℕ, zero, suc, ◌+◌, ◌≤◌, ◌<◌}
+use Prim.Native.Nat.{ℕ, zero, suc, ◌+◌, ◌-◌, ◌≤◌, ◌<◌}
 use mathlib.Core.Path.{◌≡◌, refl, sym, ◌∙◌, ap}
 use mathlib.Core.Bool.{Bool, true, false, cond, not, ◌||◌}
 use mathlib.Core.List.{List, [], ◌∷◌, ◌++◌, map}
 use native.Mathlib.Numerals.{add-one}
 use native.Mathlib.Omega.{arith}
 use native.Mathlib.Nat.{le_of_suc-le-suc, not-suc-le-zero}
-use lib.Dec.{eqb}
-use lib.ListN.{length, get_or, take, drop, set, length-set}
-use lib.Seq.{length-take-le, drop-cons, take-suc-set, append_snoc, take_at}
-use borrow.Author.Tests.{eqb-true, eq-eqb, ne_eqb}
+use lib.Dec.{eqb, ltb}
+use lib.ListN.{length, get_or, take, drop}
+use lib.Seq.{length-take-le, paste, take-paste, length-paste}
+use Rattle.std.proofs.Common.{length-drop}
+use Rattle.std.specs.Prelude.{Option, Some, None}
+use Rattle.std.specs.List.{position_or_len, copy_within}
+use Rattle.std.proofs.lemmas.List.{take-take, drop-take}
+use Rattle.std.proofs.lemmas.List.Sums.{position_or_len_is}
+use borrow.Author.Tests.{eqb-true, eq-eqb, ne_eqb, lt-ltb, le-ltb, ltb-true, ltb-false}
 use Rattle.base.specs.Search.{any, those}
 use Rattle.base.specs.promises.Counting.{leading}
 use Rattle.outcome.specs.Day.{RunningUnit, runs}
 use Rattle.outcome.proofs.DayLaws.{InOrder, none_left, one_more, order-rising, not-below, those-all}
-use Rattle.running.specs.promises.Places.{unit_place, removed}
+use Rattle.running.specs.promises.Places.{unit_place, place_in, removed}
 use Rattle.running.specs.View.{unit_of, first_units}
 use Rattle.running.specs.declared.units.Running.{Running}
-use Rattle.running.proofs.ViewLaws.{unused, first_next, first-end, first-map}
+use Rattle.running.proofs.ViewLaws.{unused, first-map}
 
--- a unit has the number, or not, or there is none
-module _ (u : ℕ) (r : RunningUnit) (rs : List RunningUnit) where
-  place_here : r.unit ≡ u → unit_place u (r ∷ rs) ≡ 0
-  unfolding unit_place leading
-  place_here e = rw (eq-eqb r.unit u e)
-
-  place-later : (r.unit ≡ u → ⊥) → unit_place u (r ∷ rs) ≡ suc (unit_place u rs)
-  unfolding unit_place leading
-  place-later n = rw (ne_eqb r.unit u n)
-
-place_none : (u : ℕ) → unit_place u [] ≡ 0
+-- the first place whose unit has the number is the unit's place
+place_first : (u : ℕ) (rs : List Running) → position_or_len (λ (r : Running). eqb r.unit u) rs ≡ unit_place u (map unit_of rs)
 unfolding unit_place leading
-place_none u = refl
+place_first u [] = refl
+place_first u (r ∷ rs) =
+    let more : 1 + position_or_len (λ (r : Running). eqb r.unit u) rs ≡ suc (unit_place u (map unit_of rs)) = omega (arith, place_first u rs) in
+    ap (λ (n : ℕ). cond (not (eqb r.unit u)) n 0) more
 
--- the search: the first i of the units that are counted have other numbers
-pub record Passed (u count : ℕ) (running : List Running) (i : ℕ) : Type 0 where
-  pub upto : i ≤ count
-  pub further : unit_place u (first_units count running) ≡ i + unit_place u (drop i (first_units count running))
+-- the search among the units that are counted, where none before the i-th has the number: the i-th has it, or there is none
+pub place-found :
+    (u count i : ℕ) (running : List Running) → count ≤ length running → i ≤ count →
+    ((k : ℕ) → k < i → (get_or (take count running) k unused).unit ≡ u → ⊥) →
+    (i < count → (get_or (take count running) i unused).unit ≡ u) → i ≡ unit_place u (first_units count running)
+place-found u count i running h upto before here =
+    let counted : length (take count running) ≡ count = length-take-le count running h in
+    rw (first-map count running h) (
+    sym (position_or_len_is (λ (r : Running). eqb r.unit u) (take count running) i unused (omega arith) (λ k l. ne_eqb _ u (before k l)) (λ l. eq-eqb _ u (here (omega arith))))
+    ∙ place_first u (take count running)
+    )
 
-module _ (u count : ℕ) (running : List Running) where
-  pub passed_none : Passed u count running 0
-  passed_none = record { upto = omega arith; further = omega arith }
+-- the unit at its place, and no unit where the search goes past all
+pub place-here : (u i : ℕ) (rs : List RunningUnit) → i ≡ unit_place u rs → i < length rs → Some i ≡ place_in u rs
+place-here u i rs e h = rw (lt-ltb (unit_place u rs) (length rs) (omega arith), e)
 
-  -- the next unit is the one, or not, or there is none
-  module _ (i : ℕ) (p : Passed u count running i) where
-    module _ (h : i < count) (k : i < length running) where
-      pub passed_here : (get_or running i unused).unit ≡ u → i ≡ unit_place u (first_units count running)
-      passed_here e =
-          let first = place_here u (unit_of (get_or running i unused)) (drop (i + 1) (first_units count running)) e in
-          sym (p.further ∙ rw (first_next unused count running i h k, first) (omega arith))
+pub place-nowhere : (u : ℕ) (rs : List RunningUnit) → length rs ≤ unit_place u rs → None ≡ place_in u rs
+place-nowhere u rs h = rw (le-ltb (unit_place u rs) (length rs) h)
 
-      pub passed-next : ((get_or running i unused).unit ≡ u → ⊥) → Passed u count running (i + 1)
-      passed-next n =
-          let later = place-later u (unit_of (get_or running i unused)) (drop (i + 1) (first_units count running)) n in
-          record {
-            upto = omega arith;
-            further = p.further ∙ rw (first_next unused count running i h k, later) (omega arith);
-          }
+-- and taken back
+module _ (u : ℕ) (rs : List RunningUnit) {o : Option ℕ} (found : o ≡ place_in u rs) where
+  pub place-was : {at : ℕ} → o ≡ Some at → (at ≡ unit_place u rs) × (at < length rs)
+  place-was {at} e = go (ltb (unit_place u rs) (length rs)) refl
+    where
+      go : (t : Bool) → ltb (unit_place u rs) (length rs) ≡ t → (at ≡ unit_place u rs) × (at < length rs)
+      go true f =
+          let same : at ≡ unit_place u rs = cc in
+          (same, omega (arith, ltb-true (unit_place u rs) (length rs) f))
+      go false f = let z : ◌≡◌ {A = ℕ} 0 1 = cc in absurd (omega arith)
 
-    pub passed_over : count ≤ i → count ≡ unit_place u (first_units count running)
-    passed_over h =
-        let none_left : unit_place u (drop i (first_units count running)) ≡ 0 = rw (first-end count running i h) (place_none u) in
-        omega (arith, p.further, p.upto)
+  pub no-place : o ≡ None → length rs ≤ unit_place u rs
+  no-place e = go (ltb (unit_place u rs) (length rs)) refl
+    where
+      go : (t : Bool) → ltb (unit_place u rs) (length rs) ≡ t → length rs ≤ unit_place u rs
+      go true f = let z : ◌≡◌ {A = ℕ} 0 1 = cc in absurd (omega arith)
+      go false f = ltb-false (unit_place u rs) (length rs) f
 
 -- a unit runs where it has a place
 pub place-runs : (u : ℕ) (rs : List RunningUnit) → unit_place u rs < length rs → runs u rs ≡ true
@@ -119,14 +125,6 @@ module _ {A : Type 0} where
   removed-split zero (x ∷ xs) = refl
   removed-split (suc i) (x ∷ xs) = ap (λ (l : List A). x ∷ l) (removed-split i xs)
 
-  removed-take : (i m : ℕ) (l : List A) → i ≤ m → m < length l → take m (removed i l) ≡ removed i (take (suc m) l)
-  unfolding removed
-  removed-take i m [] h k = absurd (not-suc-le-zero k)
-  removed-take zero m (x ∷ xs) h k = refl
-  removed-take (suc i) zero (x ∷ xs) h k = absurd (not-suc-le-zero h)
-  removed-take (suc i) (suc m) (x ∷ xs) h k =
-      ap (λ (l : List A). x ∷ l) (removed-take i m xs (le_of_suc-le-suc h) (le_of_suc-le-suc k))
-
   removed-map : {B : Type 0} (f : A → B) (i : ℕ) (l : List A) → map f (removed i l) ≡ removed i (map f l)
   unfolding removed
   removed-map f zero [] = refl
@@ -134,56 +132,28 @@ module _ {A : Type 0} where
   removed-map f zero (x ∷ xs) = refl
   removed-map {B} f (suc i) (x ∷ xs) = ap (λ (l : List B). f x ∷ l) (removed-map f i xs)
 
--- The places behind the one that is taken out move forward, up to the i-th.
-pub record Shifting (at : ℕ) (old : List Running) (i : ℕ) (new : List Running) : Type 0 where
-  pub from : at ≤ i
-  pub places : length new ≡ length old
-  pub moved : removed at old ≡ take i new ++ drop (suc i) old
+-- the places behind the one that is taken out, moved one place forward
+moved :
+    (at m : ℕ) (old : List Running) → suc at + m ≤ length old →
+    take (at + m) (paste old at (drop (suc at) old) m) ≡ removed at (take (suc at + m) old)
+moved at m old h =
+    let behind : m ≤ length (drop (suc at) old) = rw length-drop (omega arith) in
+    take-paste old at (drop (suc at) old) m (omega arith) behind
+    ∙ sym (removed-split at (take (suc at + m) old) ∙ rw (take-take at (suc at + m) old (omega arith), drop-take (suc at) m old))
 
-pub shift_none : (at : ℕ) (old : List Running) → Shifting at old at old
-shift_none at old = record { from = omega arith; places = refl; moved = removed-split at old }
-
-module _ (at : ℕ) (old : List Running) where
-  pub shift-next :
-      (d : Running) (i : ℕ) (new : List Running) → i + 1 < length old → Shifting at old i new →
-      Shifting at old (i + 1) (set new i (get_or old (i + 1) d))
-  shift-next d i new h s = rw add-one stored
-    where
-      inside : i < length new
-      inside = omega (arith, s.places)
-
-      behind : drop (suc i) old ≡ get_or old (suc i) d ∷ drop (suc (suc i)) old
-      behind = drop-cons old (suc i) d (omega arith)
-
-      stored : Shifting at old (suc i) (set new i (get_or old (suc i) d))
-      stored =
-          record {
-            from = omega (arith, s.from);
-            places = length-set new i (get_or old (suc i) d) ∙ s.places;
-            moved =
-                s.moved
-                ∙ rw (behind, take-suc-set new i (get_or old (suc i) d) inside)
-                (sym (append_snoc (take i new) (get_or old (suc i) d) (drop (suc (suc i)) old)));
-          }
-
-  -- with one unit less counted, those that are left are seen
-  shifted :
-      (m : ℕ) (new : List Running) → m < length old → Shifting at old m new →
-      first_units m new ≡ removed at (first_units (suc m) old)
-  shifted m new h s =
-      let room : m ≤ length new = omega (arith, s.places) in
-      let front : take m new ≡ removed at (take (suc m) old) =
-      sym (take_at (take m new) (drop (suc m) old) m (length-take-le m new room))
-      ∙ ap (take m) (sym s.moved)
-      ∙ removed-take at m old s.from h in
-      first-map m new room
-      ∙ ap (map unit_of) front
-      ∙ removed-map unit_of at (take (suc m) old)
-      ∙ ap (removed at) (sym (first-map (suc m) old (omega arith)))
-
-  pub shift-over :
-      (count i : ℕ) (new : List Running) → i + 1 ≡ count → count ≤ length old → Shifting at old i new →
-      first_units i new ≡ removed at (first_units count old)
-  shift-over count i new e h s =
-      let same : suc i ≡ count = omega arith in
-      rw same at (shifted i new (omega arith) s)
+-- with one unit less counted, those that are left are seen
+pub shifted :
+    (at count : ℕ) (old : List Running) → at < count → count ≤ length old →
+    first_units (count - 1) (copy_within old (at + 1) count at) ≡ removed at (first_units count old)
+shifted at count old h k =
+    let m : ℕ = count - suc at in
+    let first : at + m ≡ count - 1 = omega arith in
+    let all : suc at + m ≡ count = omega arith in
+    let behind : m ≤ length (drop (suc at) old) = rw length-drop (omega arith) in
+    let there : length (paste old at (drop (suc at) old) m) ≡ length old = length-paste old at (drop (suc at) old) m (omega arith) behind in
+    rw add-one (
+    first-map (count - 1) (paste old at (drop (suc at) old) m) (omega arith)
+    ∙ ap (map unit_of) (ap (λ (k : ℕ). take k (paste old at (drop (suc at) old) m)) (sym first) ∙ moved at m old (omega arith) ∙ ap (λ (k : ℕ). removed at (take k old)) all)
+    ∙ removed-map unit_of at (take count old)
+    ∙ ap (removed at) (sym (first-map count old k))
+    )

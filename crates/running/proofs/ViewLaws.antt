@@ -5,7 +5,6 @@ use mathlib.Core.List.{List, [], ◌∷◌, map}
 use native.Mathlib.Numerals.{add-one}
 use native.Mathlib.Nat.{le_of_suc-le-suc, not-suc-le-zero}
 use lib.ListN.{length, get_or, take, drop, length-map}
-use Rattle.base.proofs.Lists.{drop-end}
 use Rattle.tables.specs.declared.files.Kind.TheVariants.{M}
 use Rattle.outcome.specs.Day.{RunningUnit}
 use Rattle.running.specs.View.{unit_of, first_units, units_of}
@@ -49,9 +48,6 @@ first-at m zero rs i h k = absurd (not-suc-le-zero h)
 first-at m (suc n) [] i h k = absurd (not-suc-le-zero k)
 first-at m (suc n) (r ∷ rs) zero h k = refl
 first-at m (suc n) (r ∷ rs) (suc i) h k = first-at m n rs i (le_of_suc-le-suc h) (le_of_suc-le-suc k)
-
-pub first-end : (n : ℕ) (rs : List Running) (i : ℕ) → n ≤ i → drop i (first_units n rs) ≡ []
-first-end n rs i h = drop-end i (first_units n rs) (rw first-length h)
 
 -- where the places are there, the units are those in them
 pub first-map : (n : ℕ) (rs : List Running) → n ≤ length rs → first_units n rs ≡ map unit_of (take n rs)

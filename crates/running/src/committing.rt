@@ -31,11 +31,9 @@ impl Units {
     {
         let none = Units::none();
         let mut running = none.running;
-        let mut i = 0;
-        while i < n {
+        for i in 0..n {
             let r = chosen_at(rows, i);
             running[i] = r;
-            i += 1;
         }
         Units { count: n, running }
     }

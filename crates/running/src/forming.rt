@@ -18,18 +18,15 @@ impl Units {
             return false;
         }
         let mut last = 0;
-        let mut i = 0;
-        while i < count {
-            let r = self.running[i];
+        for r in &self.running[..count] {
             if r.unit <= last {
                 return false;
             }
-            if unit_in_range(r) {
+            if unit_in_range(*r) {
                 last = r.unit;
             } else {
                 return false;
             }
-            i += 1;
         }
         true
     }

@@ -2,27 +2,23 @@
 // counted than there are places.
 ghost use Rattle.std.specs.Prelude.{◌≡◌, ◌≤◌, ◌<◌};
 ghost use Rattle.outcome.specs.Day.{most_running};
-ghost use Rattle.running.specs.promises.Places.{unit_place, removed};
+ghost use Rattle.running.specs.promises.Places.{place_in, removed};
 ghost use Rattle.running.specs.View.{units_of};
 
 use crate::units::Units;
 
 impl Units {
-    // The place of the unit among the running ones, or their count where it isn't among them.
-    pub fn place_of(self, unit: u64) -> usize
+    // The place of the unit among the running ones, if it is among them.
+    pub fn place_of(self, unit: u64) -> Option<usize>
         requires { self.count ≤ most_running }
-        ensures { result ≡ unit_place unit (units_of self) }
+        ensures { result ≡ place_in unit (units_of self) }
     {
-        let count = self.count;
-        let mut i = 0;
-        while i < count {
-            let r = self.running[i];
+        for (i, r) in self.running[..self.count].iter().enumerate() {
             if r.unit == unit {
-                return i;
+                return Some(i);
             }
-            i += 1;
         }
-        count
+        None
     }
 
     // The units without the one at a place: those behind it move one place forward.
@@ -33,13 +29,7 @@ impl Units {
     {
         let count = self.count - 1;
         let mut running = self.running;
-        let mut i = at;
-        while i < count {
-            let next = i + 1;
-            let r = self.running[next];
-            running[i] = r;
-            i = next;
-        }
+        running.copy_within(at + 1..self.count, at);
         Units { count, running }
     }
 }

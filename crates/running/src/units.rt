@@ -14,7 +14,8 @@ pub struct Running {
     pub kind: Kind,
 }
 
-// The running units are the first `count` of `running`.
+// The running units are the first `count` of `running`: a day goes by value and takes no heap, so there is no
+// `Vec`.
 #[derive(Clone, Copy)]
 pub struct Units {
     pub count: usize,

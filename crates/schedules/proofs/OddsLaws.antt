@@ -1,5 +1,6 @@
 -- Laws of rows at odds, over plain lists: a pair of rows, a row against those before it, and the first such row. Assumes
 -- nothing.
+use Rattle.std.specs.Prelude.{None, Some}
 use Prim.Native.Nat.{ℕ, zero, suc, ◌+◌, ◌≤◌, ◌<◌}
 use mathlib.Core.Path.{◌≡◌, refl, sym, ◌∙◌}
 use mathlib.Core.Logic.{⊎_elim}
@@ -7,8 +8,6 @@ use mathlib.Core.Bool.{Bool, true, false, not, or-true, or-false}
 use mathlib.Core.List.Memᴰ.{head}
 use mathlib.Core.List.Memᴰ.{tail as later}
 use mathlib.Core.List.{List, Memᴰ as Among}
-use mathlib.Core.Option
-use mathlib.Core.Option.{none}
 use native.Mathlib.Omega.{arith}
 use native.Mathlib.Numerals.{add-one}
 use lib.Dec.{eqb}
@@ -104,7 +103,6 @@ module _ (cells : List ℕ) where
 
 -- of n rows k are passed, none of them at odds
 pub record Agreeing (n : ℕ) (cells : List ℕ) (k : ℕ) : Type 0 where
-  pub upto : k ≤ n
   pub rest :
       schedules_at_odds (schedule_rows n cells)
       ≡ first_at_odds schedule_odds (schedules_before cells k) (suc k) (drop k (schedule_rows n cells))
@@ -112,27 +110,23 @@ pub record Agreeing (n : ℕ) (cells : List ℕ) (k : ℕ) : Type 0 where
 module _ (n : ℕ) (cells : List ℕ) where
   pub agreeing-none : Agreeing n cells 0
   unfolding schedules_at_odds schedules_before
-  agreeing-none = record { upto = omega arith; rest = refl }
+  agreeing-none = record { rest = refl }
 
   module _ (k : ℕ) (t : Bool) (l : Agreeing n cells k) (h : k < n) (is : t ≡ any (schedule_odds (schedule_at cells k)) (schedules_before cells k)) where
-    pub agreeing-here : (x : ℕ) → t ≡ true → x ≡ k + 1 → x ≡ Option.get_or (schedules_at_odds (schedule_rows n cells)) 0
+    pub agreeing-here : t ≡ true → Some (k + 1) ≡ schedules_at_odds (schedule_rows n cells)
     unfolding first_at_odds
-    agreeing-here x e named = named ∙ rw (l.rest, schedule-next n cells k h, ← is, e) (add-one k)
+    agreeing-here e = rw (l.rest, schedule-next n cells k h, ← is, e, add-one k)
 
     pub agreeing-next : t ≡ false → Agreeing n cells (k + 1)
     unfolding first_at_odds schedules_before
-    agreeing-next e =
-        record {
-          upto = omega arith;
-          rest = l.rest ∙ rw (schedule-next n cells k h, ← is, e, add-one k);
-        }
+    agreeing-next e = record { rest = l.rest ∙ rw (schedule-next n cells k h, ← is, e, add-one k) }
 
-  pub agreeing-over : (k : ℕ) → Agreeing n cells k → n ≤ k → 0 ≡ Option.get_or (schedules_at_odds (schedule_rows n cells)) 0
+  pub agreeing-over : (k : ℕ) → Agreeing n cells k → n ≤ k → None ≡ schedules_at_odds (schedule_rows n cells)
   unfolding first_at_odds
   agreeing-over k l h = rw (l.rest, rows_end n cells k h)
 
 -- where no row is at odds with an earlier one, rows of one schedule and hour are one row
-module _ (n : ℕ) (cells : List ℕ) (agree : schedules_at_odds (schedule_rows n cells) ≡ none) where
+module _ (n : ℕ) (cells : List ℕ) (agree : schedules_at_odds (schedule_rows n cells) ≡ None) where
   none_before : (k : ℕ) → Agreeing n cells k → k < n → any (schedule_odds (schedule_at cells k)) (schedules_before cells k) ≡ false
   none_before k l h =
       (odds-none schedule_odds (schedules_before cells k) (suc k) (schedule_at cells k) (drop (k + 1) (schedule_rows n cells))

@@ -1,11 +1,11 @@
 -- Rule 9 by steps is rule 9, and a unit's own rows are as good as all. Assumes nothing.
+use Rattle.std.specs.Prelude.{None, Some}
 use Prim.Native.Nat.{ℕ, zero, suc, ◌+◌, ◌-◌, ◌≤◌, ◌<◌}
 use mathlib.Core.Path.{◌≡◌, refl, sym, ◌∙◌}
 use mathlib.Core.Logic.{◌⊎◌, inl, inr, ⊎_elim}
 use mathlib.Core.Bool.{Bool, true, false, cond, not, ◌&&◌, ◌||◌, and-false}
 use mathlib.Core.List.Memᴰ
 use mathlib.Core.List.{List, [], ◌∷◌, Memᴰ}
-use mathlib.Core.Option.{none, some}
 use native.Mathlib.Omega.{arith}
 use native.Mathlib.Numerals.{add-one}
 use lib.Dec.{eqb, leb, ltb}
@@ -69,25 +69,25 @@ moved : {r x : ScheduleRow} {seen xs : List ScheduleRow} →
 moved (inl m) = inl (Memᴰ.tail m)
 moved (inr m) = ⊎_elim (λ e. inl (Memᴰ.head e)) inr (Memᴰ.cases_cons m)
 
-none-some : {A : Type 0} {x : A} {B : Type 0} → some x ≡ none → B
+none-some : {A : Type 0} {x : A} {B : Type 0} → Some x ≡ None → B
 none-some e = let z : ◌≡◌ {A = ℕ} 0 1 = cc in absurd (omega arith)
 
 -- the two parts of a search for rows at odds that finds none
-module _ (x : ScheduleRow) (seen xs : List ScheduleRow) (k : ℕ) (f : first_at_odds schedule_odds seen k (x ∷ xs) ≡ none) where
+module _ (x : ScheduleRow) (seen xs : List ScheduleRow) (k : ℕ) (f : first_at_odds schedule_odds seen k (x ∷ xs) ≡ None) where
   odds-here : any (schedule_odds x) seen ≡ false
   unfolding first_at_odds
   odds-here = go (any (schedule_odds x) seen) f
     where
-      go : (t : Bool) → cond t (some k) (first_at_odds schedule_odds (x ∷ seen) (suc k) xs) ≡ none → t ≡ false
+      go : (t : Bool) → cond t (Some k) (first_at_odds schedule_odds (x ∷ seen) (suc k) xs) ≡ None → t ≡ false
       go true e = none-some e
       go false e = refl
 
-  odds-later : first_at_odds schedule_odds (x ∷ seen) (suc k) xs ≡ none
+  odds-later : first_at_odds schedule_odds (x ∷ seen) (suc k) xs ≡ None
   unfolding first_at_odds
   odds-later = rw odds-here at f
 
 shared-all :
-    (seen xs : List ScheduleRow) (k : ℕ) → Shared seen → first_at_odds schedule_odds seen k xs ≡ none →
+    (seen xs : List ScheduleRow) (k : ℕ) → Shared seen → first_at_odds schedule_odds seen k xs ≡ None →
     (r e : ScheduleRow) → Memᴰ r seen ⊎ Memᴰ r xs → Memᴰ e seen ⊎ Memᴰ e xs →
     same_schedule r e ≡ true → r.minrun ≡ e.minrun
 unfolding Shared
@@ -97,7 +97,7 @@ shared-all seen [] k s f r e (inr m) n same = absurd (Memᴰ.not-nil m)
 shared-all seen (x ∷ xs) k s f r e m n same =
     shared-all (x ∷ seen) xs (suc k) (shared-more x seen s (odds-here x seen xs k f)) (odds-later x seen xs k f) r e (moved m) (moved n) same
 
-shared : (rs : List ScheduleRow) → schedules_at_odds rs ≡ none → Shared rs
+shared : (rs : List ScheduleRow) → schedules_at_odds rs ≡ None → Shared rs
 unfolding Shared schedules_at_odds
 shared rs f r e m n same =
     shared-all [] rs 1 (λ (a b : ScheduleRow) (i : Memᴰ a []) (j : Memᴰ b []) (t : _). absurd (Memᴰ.not-nil i)) f r e (inr m) (inr n) same
@@ -114,16 +114,16 @@ module _ (p : ScheduleRow → Bool) where
       go false b = b
 
   odds-those :
-      (seen xs : List ScheduleRow) (k j : ℕ) → first_at_odds schedule_odds seen k xs ≡ none →
-      first_at_odds schedule_odds (those p seen) j (those p xs) ≡ none
+      (seen xs : List ScheduleRow) (k j : ℕ) → first_at_odds schedule_odds seen k xs ≡ None →
+      first_at_odds schedule_odds (those p seen) j (those p xs) ≡ None
   unfolding first_at_odds those
   odds-those seen [] k j f = refl
   odds-those seen (x ∷ xs) k j f = go (p x) (λ (i : ℕ). odds-those (x ∷ seen) xs (suc k) i (odds-later x seen xs k f))
     where
       go :
           (t : Bool) →
-          ((i : ℕ) → first_at_odds schedule_odds (cond t (x ∷ those p seen) (those p seen)) i (those p xs) ≡ none) →
-          first_at_odds schedule_odds (those p seen) j (cond t (x ∷ those p xs) (those p xs)) ≡ none
+          ((i : ℕ) → first_at_odds schedule_odds (cond t (x ∷ those p seen) (those p seen)) i (those p xs) ≡ None) →
+          first_at_odds schedule_odds (those p seen) j (cond t (x ∷ those p xs) (those p xs)) ≡ None
       go true below = rw (none-those (schedule_odds x) seen (odds-here x seen xs k f)) (below (suc j))
       go false below = below j
 

@@ -1,7 +1,6 @@
 -- Document 01, "Files": "With study hour h, a schedule's run is the hours from h to the lesser of h + minrun - 1 and 23, and
 -- every schedule has a row for each." Assumes nothing.
-use Rattle.std.specs.Prelude.{ℕ, zero, suc, ◌-◌, Bool, true, not, ◌&&◌, List, eqb}
-use Rattle.std.proofs.Math.Option.{Option}
+use Rattle.std.specs.Prelude.{ℕ, zero, suc, ◌-◌, Bool, true, not, ◌&&◌, List, eqb, Option}
 use Rattle.base.specs.Search.{any, find}
 use Rattle.hours.specs.Hours.{run_end}
 use Rattle.tables.specs.Rows.{ScheduleRow}

@@ -1,8 +1,7 @@
 -- Document 01, "Files": what schedule rows must be to each other and to supply: "Rows of one schedule share kind, startup
 -- and minrun; no two share the hour. A unit has at most one M schedule." A schedule is a unit's, by its number. What else the
 -- paper says of a schedule, its run, is in the crate `runs`. Assumes nothing.
-use Rattle.std.specs.Prelude.{ℕ, Bool, not, ◌&&◌, ◌||◌, List, [], eqb}
-use Rattle.std.proofs.Math.Option.{Option}
+use Rattle.std.specs.Prelude.{ℕ, Bool, not, ◌&&◌, ◌||◌, List, [], eqb, Option}
 use Rattle.base.specs.Rising.{among}
 use Rattle.base.specs.Search.{first, any, find, those, first_at_odds}
 use Rattle.tables.specs.Rows.{ScheduleRow}

@@ -9,5 +9,5 @@ mod runs;
 
 pub use linking::link_rows;
 pub use odds::schedules_at_odds;
-pub use rows::{Lowest, not_in_supply, unscheduled};
+pub use rows::{not_in_supply, unscheduled};
 pub use runs::lacking;

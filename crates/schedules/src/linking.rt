@@ -14,9 +14,7 @@ pub fn link_rows(cells: &[u64], n: usize, links: &mut [u16])
     requires unlinked { Unlinked links.old }
     ensures { RowsLinked cells.now n links.new }
 {
-    let mut k = 0;
-    while k < n {
+    for k in 0..n {
         link_row(links, cell(cells, k, UNIT), cell(cells, k, SCHEDULE), k);
-        k += 1;
     }
 }

@@ -2,7 +2,6 @@
 // breaks the sharing rule of its schedule, repeats an hour or adds a second M schedule. Assumes
 // that the run holds as many rows as it is said to.
 ghost use Rattle.std.specs.Prelude.{◌≡◌, not, ◌+◌, ◌*◌, ◌≤◌, ◌<◌, length, get_or, drop};
-ghost use Rattle.std.proofs.Math.Option;
 ghost use Rattle.base.specs.Search.{any};
 ghost use Rattle.cells.specs.promises.Views.{schedule_at, schedule_width};
 ghost use Rattle.schedules.specs.promises.Answers.{alike, both_market, schedules_before, odd_with};
@@ -14,20 +13,18 @@ use cells::schedule::{HOUR, KIND, MINRUN, SCHEDULE, STARTUP, UNIT, cell};
 use links::{UNIT_LINKS, link_at};
 use tables::M;
 
-// The first row at odds with an earlier one, counted from 1; 0 where there is none.
-pub fn schedules_at_odds(cells: &[u64], n: usize, links: &[u16]) -> usize
+// The record of the first row at odds with an earlier one, if there is one. Records count from 1.
+pub fn schedules_at_odds(cells: &[u64], n: usize, links: &[u16]) -> Option<usize>
     requires schedule_width_in_bounds { n * schedule_width ≤ length cells.now }
     requires rows_linked { RowsLinked cells.now n links.now }
-    ensures { result ≡ Option.get_or (schedules_at_odds (schedule_rows n cells.now)) 0 }
+    ensures { result ≡ schedules_at_odds (schedule_rows n cells.now) }
 {
-    let mut k = 0;
-    while k < n {
+    for k in 0..n {
         if at_odds_before(cells, k, links) {
-            return k + 1;
+            return Some(k + 1);
         }
-        k += 1;
     }
-    0
+    None
 }
 
 // Whether row `k` is at odds with one before it. Only an M row can be so with one of another

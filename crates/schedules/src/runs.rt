@@ -2,47 +2,32 @@
 // of a schedule, are found along links, and a schedule's run is followed from row to row: it has a
 // row at the study hour, and one behind each of its rows that is in the run and not its last.
 // Assumes rows that refusals 1 to 6 have passed.
-ghost use Rattle.std.specs.Prelude.{◌≡◌, ◌+◌, ◌*◌, ◌≤◌, ◌<◌, length, take};
+ghost use Rattle.std.specs.Prelude.{◌≡◌, ◌+◌, ◌*◌, ◌≤◌, ◌<◌, length};
 ghost use Rattle.hours.specs.Hours.{last_hour};
 ghost use Rattle.tables.specs.promises.Ranges.{PermittedSchedule};
 ghost use Rattle.tables.specs.promises.FlatRows.{schedule_rows};
 ghost use Rattle.cells.specs.promises.Views.{schedule_at, schedule_width};
-ghost use Rattle.schedules.specs.promises.Answers.{lowest_of};
 ghost use Rattle.links.specs.promises.Links.{RowsLinked, Linked, schedule_keys, schedule_key};
 ghost use Rattle.schedules.specs.promises.Ranges.{Checked};
 ghost use Rattle.schedules.specs.promises.Steps.{is_at, has_hour, lacks as runs_lacks, keeps_on as runs_runs, stops as runs_stops};
 ghost use Rattle.schedules.specs.Schedules.{own};
 ghost use Rattle.schedules.specs.Runs.{lacking as schedules_lacking};
 
-use crate::rows::Lowest;
 use cells::schedule::{HOUR, MINRUN, SCHEDULE, UNIT, cell};
 use hours::run_end;
 use links::{ROWS, UNIT_LINKS, link_at, schedule_key, unit_key};
 
-// The lowest of the first `count` units with a schedule that lacks an hour, where the units rise.
-pub fn lacking(
-    cells: &[u64],
-    n: usize,
-    links: &[u16],
-    units: &[u64],
-    count: usize,
-    hour: u64,
-) -> Lowest
+// The lowest of the units with a schedule that lacks an hour, if there is one, where the units rise.
+pub fn lacking(cells: &[u64], n: usize, links: &[u16], units: &[u64], hour: u64) -> Option<u64>
     requires schedule_width_in_bounds { n * schedule_width ≤ length cells.now }
     requires rows_linked { RowsLinked cells.now n links.now }
-    requires count_in_bounds { count ≤ length units.now }
     requires checked { Checked hour (schedule_rows n cells.now) }
-    ensures { result ≡ lowest_of (schedules_lacking hour (take count units.now) (schedule_rows n cells.now)) }
+    ensures { result ≡ schedules_lacking hour units.now (schedule_rows n cells.now) }
 {
-    let mut i = 0;
-    while i < count {
-        let unit = units[i];
-        if lacks(cells, n, links, unit, hour) {
-            return Lowest::Number(unit);
-        }
-        i += 1;
-    }
-    Lowest::Nothing
+    units
+        .iter()
+        .copied()
+        .find(|&unit| lacks(cells, n, links, unit, hour))
 }
 
 // Whether a schedule of the unit lacks an hour.

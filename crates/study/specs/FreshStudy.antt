@@ -1,13 +1,13 @@
 -- Document 01: the program "studies a fresh day and prints the answer file, or number, file and place". What it answers and what its
 -- buffer holds are those of the outcome. Assumes nothing.
-use Rattle.std.specs.Prelude.{ℕ, ◌≡◌, List}
+use Rattle.tables.specs.Refusals.{count_of, told_by}
+use Rattle.tables.specs.declared.files.Refusal.{Refusal}
+use Rattle.std.specs.Prelude.{ℕ, ◌≡◌, List, Result}
 use Rattle.checking.specs.Files.{Files}
 use Rattle.outcome.specs.Day.{fresh_day}
 use Rattle.outcome.specs.Study.{studied}
-use Rattle.engine.specs.Studying.{study_told, study_count}
-use Rattle.engine.specs.declared.studying.Study.{Study}
 
-pub record StudiesFresh (f : Files) (old new : List ℕ) (r : Study) : Type 0 where
-  pub tells : study_told r ≡ (studied fresh_day f old).told
-  pub counts : study_count r ≡ (studied fresh_day f old).count
+pub record StudiesFresh (f : Files) (old new : List ℕ) (r : Result ℕ Refusal) : Type 0 where
+  pub tells : told_by r ≡ (studied fresh_day f old).told
+  pub counts : count_of r ≡ (studied fresh_day f old).count
   pub bytes : new ≡ (studied fresh_day f old).buffer

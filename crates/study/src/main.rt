@@ -3,18 +3,18 @@
 // printed can't be said in a contract; what a study of those bytes gives is said by `study_in_room`.
 #![tactic(auto)]
 
+ghost use Rattle.tables.specs.Refusals.{count_of, told_by};
 ghost use Rattle.std.specs.Prelude.{◌≡◌, ◌≢◌, ◌≤◌, OnErr, length};
 ghost use Rattle.std.specs.Io.{ReadsAtMost};
 ghost use Rattle.checking.specs.Files.{files};
-ghost use Rattle.engine.specs.Studying.{study_told, study_count};
 ghost use Rattle.longest.specs.Longest.{longest};
 ghost use Rattle.study.specs.FreshStudy.{StudiesFresh};
 
-use engine::{Day, Study};
-use std::io::Read;
+use engine::Day;
 use std::rt::Files;
 use std::{fs, io};
 use tables::Refusal;
+use texts::fill;
 
 // The most bytes that a file may have: 64 KiB.
 const MOST: usize = 65536;
@@ -53,7 +53,7 @@ fn run(
     let k = read(rt, "curves.csv", curves)?;
     let p = read(rt, "parents.csv", parents)?;
     if MOST < c || MOST < s || MOST < t || MOST < k || MOST < p {
-        return print(rt, b"too long\r\n");
+        return rt.write_all(b"too long\r\n");
     }
     study(
         rt,
@@ -73,26 +73,9 @@ fn read(rt: &impl Files, name: &str, room: &mut [u8]) -> io::Result<usize>
     ensures err { OnErr result (length room.new ≡ length room.old) }
 {
     match fs::open(rt, name) {
-        Ok(mut file) => read_full(&mut file, room),
+        Ok(mut file) => fill(&mut file, room),
         Err(_) => Ok(0),
     }
-}
-
-// Reads a file to the start of the room, until it is full or the file ends, and answers how many bytes
-// it read.
-fn read_full(file: &mut impl Read, room: &mut [u8]) -> io::Result<usize>
-    ensures count { ReadsAtMost result room.new }
-    ensures err { OnErr result (length room.new ≡ length room.old) }
-{
-    let mut done = 0;
-    while done < room.len() {
-        let n = file.read(&mut room[done..])?;
-        if n == 0 {
-            break;
-        }
-        done += n;
-    }
-    Ok(done)
 }
 
 // Studies the files with room for the longest answer, and prints the answer file or the refusal.
@@ -117,30 +100,22 @@ fn study_in_room(
     curves: &[u8],
     parents: &[u8],
     room: &mut [u8],
-) -> Study
+) -> Result<usize, Refusal>
     requires { longest ≤ length room.old }
     ensures studies_fresh { StudiesFresh (files constraint.now supply.now schedules.now curves.now parents.now) room.old room.new result }
-    ensures room_enough { (study_told result).number ≢ 10 }
-    ensures result_in_bounds { study_count result ≤ length room.new }
+    ensures room_enough { (told_by result).number ≢ 10 }
+    ensures result_in_bounds { count_of result ≤ length room.new }
 {
     let studied = Day::fresh().study(constraint, supply, schedules, curves, parents, room);
     studied.answer
 }
 
 // Prints the answer file, which stands at the start of the room, or the refusal.
-fn print_study(rt: &impl Print, answer: Study, room: &[u8]) -> io::Result<()>
-    requires { study_count answer ≤ length room.now }
+fn print_study(rt: &impl Print, answer: Result<usize, Refusal>, room: &[u8]) -> io::Result<()>
+    requires { count_of answer ≤ length room.now }
 {
     match answer {
-        Study::Written(count) => print(rt, &room[0..count]),
-        Study::Refused(refusal) => print_refusal(rt, refusal),
+        Ok(count) => rt.write_all(&room[0..count]),
+        Err(refusal) => print!(rt; "{refusal}\r\n"),
     }
-}
-
-fn print_refusal(rt: &impl Print, refusal: Refusal) -> io::Result<()> {
-    print!(rt; "{},{},{}\r\n", refusal.number, refusal.file, refusal.place)
-}
-
-fn print(rt: &impl Print, text: &[u8]) -> io::Result<()> {
-    rt.write_all(text)
 }

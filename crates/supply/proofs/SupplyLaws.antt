@@ -1,13 +1,15 @@
 -- Laws of what supply rows must be to each other, row by row, over plain lists. Assumes nothing.
+use Rattle.std.specs.Prelude.{None, Option, Some}
 use Prim.Native.Nat.{ℕ, zero, suc, ◌+◌, ◌-◌, ◌*◌, ◌≤◌, ◌<◌}
 use mathlib.Core.Path.{◌≡◌, refl, sym, ◌∙◌, ap}
 use mathlib.Core.Logic.{⊎_elim}
-use mathlib.Core.Bool.{Bool, true, false, cond, not, ◌||◌}
-use mathlib.Core.List.{List, [], ◌∷◌}
-use mathlib.Core.Option
-use mathlib.Core.Option.{Option, none, some}
+use mathlib.Core.Bool.{Bool, true, false, cond, not, ◌||◌, or-false, or_comm}
+use mathlib.Core.List.{List, [], ◌∷◌, ◌++◌}
 use native.Mathlib.Omega.{arith}
 use native.Mathlib.Numerals.{add-one}
+use Rattle.std.proofs.Math.Nat.{add-zero, zero-add, suc-add, add-suc}
+use Rattle.std.specs.List.{list_any, range_with_len}
+use Rattle.std.proofs.lemmas.List.Folds.{list_any-append}
 use lib.Dec.{eqb, ltb}
 use lib.ListN.{length, get_or, take, drop, set, length-set}
 use lib.Seq.{take-append_seam, length-take-le, get_or-set_same, get_or-set_other}
@@ -38,7 +40,7 @@ pub record Growing (most : ℕ) (old now : List ℕ) (count : ℕ) : Type 0 wher
 front : {text old new : List ℕ} {count : ℕ} → Wrote text count old new → take count new ≡ text
 front {text} {old} w = rw (w.counted, w.written) (take-append_seam text (drop (length text) old))
 
-some-none : {A : Type 0} {k : ℕ} → some k ≡ none → A
+some-none : {A : Type 0} {k : ℕ} → Some k ≡ None → A
 some-none e = let z : ◌≡◌ {A = ℕ} 0 1 = cc in absurd (omega arith)
 
 -- n rows, of which k are counted: their units and suppliers are laid down, and none was too many
@@ -77,7 +79,7 @@ module _ (cells : List ℕ) (n : ℕ) (us₀ ss₀ : List ℕ) where
       abbrev more : Option ℕ
       more = over_limit_from (take uc' us') (take sc' ss') (suc (k + 1)) (drop (k + 1) (supply_rows n cells))
 
-      place-next : over_limit (supply_rows n cells) ≡ cond (too_many uc' sc') (some (suc k)) more
+      place-next : over_limit (supply_rows n cells) ≡ cond (too_many uc' sc') (Some (suc k)) more
       unfolding over_limit_from too_many
       place-next =
           so_far.place ∙ rw (row, front unit-in, front supplier-in, unit-in.counted, supplier-in.counted, add-one k)
@@ -112,9 +114,9 @@ module _ (cells : List ℕ) (n : ℕ) (us₀ ss₀ : List ℕ) where
 
       pub counting-here :
           too_many uc' sc' ≡ true →
-          Counted (supply_rows n cells) us' ss' (record { place = k + 1; units = uc'; suppliers = sc' })
+          Counted (supply_rows n cells) us' ss' (record { place = Some (k + 1); units = uc'; suppliers = sc' })
       counting-here t =
-          let here : over_limit (supply_rows n cells) ≡ some (suc k) = place-next ∙ rw t in
+          let here : over_limit (supply_rows n cells) ≡ Some (suc k) = place-next ∙ rw t in
           record {
             place = rw (here, add-one k);
             all-units = λ e. some-none (sym here ∙ e);
@@ -123,7 +125,7 @@ module _ (cells : List ℕ) (n : ℕ) (us₀ ss₀ : List ℕ) where
 
   pub counting-over :
       (us ss : List ℕ) (uc sc k : ℕ) → Counting cells n us₀ ss₀ us ss uc sc k → n ≤ k →
-      Counted (supply_rows n cells) us ss (record { place = 0; units = uc; suppliers = sc })
+      Counted (supply_rows n cells) us ss (record { place = None; units = uc; suppliers = sc })
   unfolding over_limit_from numbers_from
   counting-over us ss uc sc k c h =
       record {
@@ -173,41 +175,25 @@ module _ (r e : SupplyRow) where
   unfolding supply_odds
   odds-dfax h k = rw (eq-eqb r.unit e.unit h, eq-eqb r.supplier e.supplier k)
 
--- the row at k is compared with those before it, of which `left` are left
-pub record Comparing (cells : List ℕ) (k left : ℕ) : Type 0 where
-  pub upto : left ≤ k
-  pub room : k * 5 + 5 ≤ length cells
-  pub rest : any (supply_odds (supply_at cells k)) (supply_before cells k) ≡ any (supply_odds (supply_at cells k)) (supply_before cells left)
+-- the rows before a place are those of the places below it, and whichever comes first, one of them passes a test or none does
+earlier-any : (cells : List ℕ) (r : SupplyRow) (k : ℕ) → any (supply_odds r) (supply_before cells k) ≡ any_before (λ (j : ℕ). supply_odds r (supply_at cells j)) k
+unfolding any supply_before any_before
+earlier-any cells r zero = refl
+earlier-any cells r (suc k) = rw (earlier-any cells r k)
 
-earlier-last : (cells : List ℕ) (k : ℕ) → 0 < k → supply_before cells k ≡ supply_at cells (k - 1) ∷ supply_before cells (k - 1)
-unfolding supply_before
-earlier-last cells k h =
-    let one_less : k ≡ suc (k - 1) = omega arith in
-    ap (supply_before cells) one_less
+range-more : (a k : ℕ) → range_with_len a (suc k) ≡ range_with_len a k ++ (a + k) ∷ []
+range-more a zero = rw add-zero
+range-more a (suc k) = rw (add-suc a k, ← suc-add a k, ← add-one a) (ap (λ (s : List ℕ). a ∷ s) (range-more (a + 1) k))
 
-module _ (cells : List ℕ) (k : ℕ) where
-  pub comparing-none : k * 5 + 5 ≤ length cells → Comparing cells k k
-  comparing-none h = record { upto = omega arith; room = h; rest = refl }
+any-range : (p : ℕ → Bool) (k : ℕ) → list_any p (range_with_len 0 k) ≡ any_before p k
+unfolding any_before
+any-range p zero = refl
+any-range p (suc k) =
+    ap (list_any p) (range-more 0 k) ∙ list_any-append p (range_with_len 0 k) ((0 + k) ∷ [])
+    ∙ rw (any-range p k, zero-add k, or-false (p k)) (or_comm (any_before p k) (p k))
 
-  pub comparing-next :
-      (left : ℕ) → Comparing cells k left → 0 < left → supply_odds (supply_at cells k) (supply_at cells (left - 1)) ≡ false →
-      Comparing cells k (left - 1)
-  unfolding any
-  comparing-next left c h e =
-      record { upto = omega arith; room = c.room; rest = c.rest ∙ rw (earlier-last cells left h, e) }
-
-  pub comparing-here :
-      (left : ℕ) → Comparing cells k left → 0 < left → supply_odds (supply_at cells k) (supply_at cells (left - 1)) ≡ true →
-      true ≡ any (supply_odds (supply_at cells k)) (supply_before cells k)
-  unfolding any
-  comparing-here left c h e = sym (c.rest ∙ rw (earlier-last cells left h, e))
-
-  pub comparing-over :
-      (left : ℕ) → Comparing cells k left → left ≤ 0 → false ≡ any (supply_odds (supply_at cells k)) (supply_before cells k)
-  unfolding any supply_before
-  comparing-over left c h =
-      let over : left ≡ 0 = omega arith in
-      sym (c.rest ∙ rw over)
+pub earlier-range : (cells : List ℕ) (r : SupplyRow) (k : ℕ) → list_any (λ j. supply_odds r (supply_at cells j)) (range_with_len 0 k) ≡ any (supply_odds r) (supply_before cells k)
+earlier-range cells r k = any-range _ k ∙ sym (earlier-any cells r k)
 
 -- the last row of its key before the row at k
 pub keyed-upto : (cells : List ℕ) (k left : ℕ) → left ≡ last_same (supply_key cells) (supply_key cells k) k → left ≤ k
@@ -218,18 +204,13 @@ module _ (cells : List ℕ) (k left : ℕ) (is : left ≡ last_same (supply_key 
   abbrev odd : ℕ → Bool
   odd j = supply_odds (supply_at cells k) (supply_at cells j)
 
-  earlier-any : (r : SupplyRow) (j : ℕ) → any (supply_odds r) (supply_before cells j) ≡ any_before (λ (i : ℕ). supply_odds r (supply_at cells i)) j
-  unfolding any supply_before any_before
-  earlier-any r zero = refl
-  earlier-any r (suc j) = rw (earlier-any r j)
-
   alike : (j : ℕ) → odd j ≡ true → supply_key cells j ≡ supply_key cells k
   unfolding supply_odds
   alike j e =
       rw (eqb-true (supply_at cells k).unit (supply_at cells j).unit (and-fst (eqb (supply_at cells k).unit (supply_at cells j).unit) _ e))
 
   as-last : any (supply_odds (supply_at cells k)) (supply_before cells k) ≡ any_before odd left
-  as-last = earlier-any (supply_at cells k) k ∙ last-any (supply_key cells) odd (supply_key cells k) alike k ∙ rw (← is)
+  as-last = earlier-any cells (supply_at cells k) k ∙ last-any (supply_key cells) odd (supply_key cells k) alike k ∙ rw (← is)
 
   pub last_none : left ≡ 0 → false ≡ any (supply_odds (supply_at cells k)) (supply_before cells k)
   unfolding any_before
@@ -255,7 +236,7 @@ module _ (cells : List ℕ) (k left : ℕ) (is : left ≡ last_same (supply_key 
       other : odd (left - 1) ≡ false → (odd (left - 1) || any_before odd (left - 1)) ≡ odd (left - 1)
       other e =
           rw e
-          (sym (earlier-any (supply_at cells k) (left - 1))
+          (sym (earlier-any cells (supply_at cells k) (left - 1))
           ∙ any_same (supply_odds (supply_at cells k)) (supply_odds (supply_at cells (left - 1))) (supply_before cells (left - 1)) (same-odds (left - 1) unit e)
           ∙ agree (left - 1) (omega (arith, keyed-upto cells k left is)))
 
@@ -322,10 +303,10 @@ module _ (cells : List ℕ) (n : ℕ) (old : List ℕ) where
                 get_or-set_other last x z y 0 o
                 ∙ a.keys z f ∙ sym (last-later (supply_key cells) z k (λ (s : supply_key cells k ≡ z). o (sym s ∙ sym key)))
 
-    pub agreeing-here : t ≡ true → k + 1 ≡ Option.get_or (supply_at_odds (supply_rows n cells)) 0
+    pub agreeing-here : t ≡ true → Some (k + 1) ≡ supply_at_odds (supply_rows n cells)
     unfolding first_at_odds
     agreeing-here e = rw (a.rest, supply-next n cells k h, ← is, e, add-one k)
 
-  pub agreeing-over : (last : List ℕ) (k : ℕ) → Agreeing cells n old last k → n ≤ k → 0 ≡ Option.get_or (supply_at_odds (supply_rows n cells)) 0
+  pub agreeing-over : (last : List ℕ) (k : ℕ) → Agreeing cells n old last k → n ≤ k → None ≡ supply_at_odds (supply_rows n cells)
   unfolding first_at_odds
   agreeing-over last k a h = rw (a.rest, drop-end k (supply_rows n cells) (rw (supply-length n cells) h))

@@ -1,7 +1,6 @@
 -- Document 01, "Files": what supply rows must be to each other: "at most 64 units, 32 suppliers", and "Rows of one unit
 -- share supplier and dfax." Assumes nothing.
-use Rattle.std.specs.Prelude.{ℕ, suc, Bool, cond, not, ◌&&◌, ◌||◌, List, [], ◌∷◌, eqb, ltb, length}
-use Rattle.std.proofs.Math.Option.{Option, none, some}
+use Rattle.std.specs.Prelude.{ℕ, suc, Bool, cond, not, ◌&&◌, ◌||◌, List, [], ◌∷◌, eqb, ltb, length, None, Option, Some}
 use Rattle.base.specs.Rising.{inserted}
 use Rattle.base.specs.Search.{first_at_odds}
 use Rattle.numbers.specs.Numbers.{numbers_of}
@@ -23,10 +22,10 @@ suppliers rs = numbers_of (λ (r : SupplyRow). r.supplier) rs
 
 -- 5: "a 65th unit or 33rd supplier in supply (its record)". Of the rows before, us are the units and ss the suppliers
 unfoldable pub over_limit_from : List ℕ → List ℕ → ℕ → List SupplyRow → Option ℕ
-over_limit_from us ss k [] = none
+over_limit_from us ss k [] = None
 over_limit_from us ss k (r ∷ rs) =
     let more = over_limit_from (inserted r.unit us) (inserted r.supplier ss) (suc k) rs in
-    cond (ltb most_units (length (inserted r.unit us)) || ltb most_suppliers (length (inserted r.supplier ss))) (some k) more
+    cond (ltb most_units (length (inserted r.unit us)) || ltb most_suppliers (length (inserted r.supplier ss))) (Some k) more
 
 unfoldable pub over_limit : List SupplyRow → Option ℕ
 over_limit rs = over_limit_from [] [] 1 rs

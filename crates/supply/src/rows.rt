@@ -2,7 +2,6 @@
 // that share supplier and dfax. Rows stand one behind the other in a flat run of cells. Records
 // count from 1. Assumes nothing of the cells.
 ghost use Rattle.std.specs.Prelude.{◌≡◌, ◌+◌, ◌*◌, ◌≤◌, ◌<◌, length};
-ghost use Rattle.std.proofs.Math.Option.{get_or};
 ghost use Rattle.base.specs.Search.{any};
 ghost use Rattle.links.specs.promises.Links.{last_same, Unlinked, unit_keys};
 ghost use Rattle.supply.specs.Supply.{most_units, most_suppliers, supply_odds, supply_at_odds};
@@ -21,11 +20,11 @@ const SUPPLIERS: usize = 32;
 // How many keys the units have.
 const KEYS: usize = 1024;
 
-// The record that brings a unit or a supplier too many, 0 where none does; and how many units and
+// The record that brings a unit or a supplier too many, if one does; and how many units and
 // suppliers there are.
 #[derive(Clone, Copy)]
 pub struct Counts {
-    pub place: usize,
+    pub place: Option<usize>,
     pub units: usize,
     pub suppliers: usize,
 }
@@ -38,23 +37,21 @@ pub fn over_limit(cells: &[u64], n: usize, units: &mut [u64], suppliers: &mut [u
 {
     let mut unit_count = 0;
     let mut supplier_count = 0;
-    let mut k = 0;
-    while k < n {
+    for k in 0..n {
         let unit = cells[k * WIDTH + UNIT];
         let supplier = cells[k * WIDTH + SUPPLIER];
         unit_count = insert(units, unit_count, unit);
         supplier_count = insert(suppliers, supplier_count, supplier);
         if too_many(unit_count, supplier_count) {
             return Counts {
-                place: k + 1,
+                place: Some(k + 1),
                 units: unit_count,
                 suppliers: supplier_count,
             };
         }
-        k += 1;
     }
     Counts {
-        place: 0,
+        place: None,
         units: unit_count,
         suppliers: supplier_count,
     }
@@ -69,32 +66,31 @@ fn too_many(units: usize, suppliers: usize) -> bool
     SUPPLIERS < suppliers
 }
 
-// The first record that is at odds with an earlier one, 0 where none is.
-pub fn supply_at_odds(cells: &[u64], n: usize) -> usize
+// The first record that is at odds with an earlier one.
+pub fn supply_at_odds(cells: &[u64], n: usize) -> Option<usize>
     requires { n * supply_width ≤ length cells.now }
-    ensures { result ≡ get_or (supply_at_odds (supply_rows n cells.now)) 0 }
+    ensures { result ≡ supply_at_odds (supply_rows n cells.now) }
 {
     let mut last = [0usize; KEYS];
     first_at_odds(cells, n, &mut last)
 }
 
-// The same, with a lent run in which each key has one more than the place of its last row so far.
-fn first_at_odds(cells: &[u64], n: usize, last: &mut [usize]) -> usize
+// The same, with a lent run in which each key has one more than the place of its last row so far: fixed
+// memory, in which an `Option` would take twice the room.
+fn first_at_odds(cells: &[u64], n: usize, last: &mut [usize]) -> Option<usize>
     requires supply_width_in_bounds { n * supply_width ≤ length cells.now }
     requires unit_keys_in_bounds { unit_keys ≤ length last.old }
     requires unlinked { Unlinked last.old }
-    ensures { result ≡ get_or (supply_at_odds (supply_rows n cells.now)) 0 }
+    ensures { result ≡ supply_at_odds (supply_rows n cells.now) }
 {
-    let mut k = 0;
-    while k < n {
+    for k in 0..n {
         let key = unit_key(cells[k * WIDTH + UNIT]);
         if at_odds_with_last(cells, k, last[key]) {
-            return k + 1;
+            return Some(k + 1);
         }
         last[key] = k + 1;
-        k += 1;
     }
-    0
+    None
 }
 
 // Whether the row at k is at odds with one before it, where none of those is at odds with an
@@ -122,14 +118,7 @@ fn at_odds_with_earlier(cells: &[u64], k: usize) -> bool
     requires { k * supply_width + supply_width ≤ length cells.now }
     ensures { result ≡ any (supply_odds (supply_at cells.now k)) (supply_before cells.now k) }
 {
-    let mut left = k;
-    while 0 < left {
-        left -= 1;
-        if at_odds(cells, k, left) {
-            return true;
-        }
-    }
-    false
+    (0..k).any(|early| at_odds(cells, k, early))
 }
 
 // Whether two rows are of one unit and differ in supplier or dfax.

@@ -1,11 +1,10 @@
 -- What holds of a file that reading doesn't refuse: its rows are as many as the table permits, each within the ranges, and
 -- they are what stands in the cells that reading laid down. Assumes nothing.
+use Rattle.std.specs.Prelude.{None, Option, Some, option_map}
 use Prim.Native.Nat.{ℕ, ◌≤◌}
 use mathlib.Core.Path.{◌≡◌, refl, sym, ◌∙◌, ap}
 use mathlib.Core.Bool.{Bool, true, false, cond, not, ◌&&◌}
 use mathlib.Core.List.{List, [], ◌∷◌, ◌++◌, map, append_assoc}
-use mathlib.Core.Option
-use mathlib.Core.Option.{Option, none, some}
 use native.Mathlib.Omega.{arith}
 use lib.Dec.{eqb, leb}
 use lib.ListN.{length, drop}
@@ -59,20 +58,20 @@ pub record Accepted (f : File) (s : List ℕ) : Type 0 where
   pub lays : laid f s ≡ all_cells (table f).columns (rows s)
   pub viewed : (more : List ℕ) → rows_of (width f) (length (rows s)) (laid f s ++ more) ≡ map (cells (table f).columns) (rows s)
 
-module _ (f : File) (s : List ℕ) (e : refusal f s ≡ none) where
+module _ (f : File) (s : List ℕ) (e : refusal f s ≡ None) where
   -- refusal by refusal
-  pub parts : (misshapen f s ≡ none) × (malformed f (rows s) ≡ none)
+  pub parts : (misshapen f s ≡ None) × (malformed f (rows s) ≡ None)
   unfolding refusal
   parts =
       let a = first-of-none (misshapen f s) _ e in
       (a.0, option-map-none (refused 3 f) (malformed f (rows s)) (first-of-none _ [] a.1).0)
 
-  pub shape : (irregular s ≡ none) × (misfit f (records s) ≡ none) × (miscount f (length (rows s)) ≡ none)
+  pub shape : (irregular s ≡ None) × (misfit f (records s) ≡ None) × (miscount f (length (rows s)) ≡ None)
   unfolding misshapen
   shape =
-      let a = first-of-none (Option.map (refused 1 f) (irregular s)) _ parts.0 in
-      let b = first-of-none (Option.map (refused 2 f) (misfit f (records s))) _ a.1 in
-      let c = first-of-none (Option.map (refused 4 f) (miscount f (length (rows s)))) [] b.1 in (
+      let a = first-of-none (option_map (refused 1 f) (irregular s)) _ parts.0 in
+      let b = first-of-none (option_map (refused 2 f) (misfit f (records s))) _ a.1 in
+      let c = first-of-none (option_map (refused 4 f) (miscount f (length (rows s)))) [] b.1 in (
         option-map-none (refused 1 f) (irregular s) a.0,
         option-map-none (refused 2 f) (misfit f (records s)) b.0,
         option-map-none (refused 4 f) (miscount f (length (rows s))) c.0,
@@ -84,7 +83,7 @@ module _ (f : File) (s : List ℕ) (e : refusal f s ≡ none) where
     where
       go :
           (t : Bool) → (leb (table f).fewest_rows (length (rows s)) && leb (length (rows s)) (table f).most_rows) ≡ t →
-          cond {A = Option ℕ} t none (some 0) ≡ none → ((table f).fewest_rows ≤ length (rows s)) × (length (rows s) ≤ (table f).most_rows)
+          cond {A = Option ℕ} t None (Some 0) ≡ None → ((table f).fewest_rows ≤ length (rows s)) × (length (rows s) ≤ (table f).most_rows)
       go true q z = (
         leb-true _ _ (and-fst (leb (table f).fewest_rows (length (rows s))) (leb (length (rows s)) (table f).most_rows) q),
         leb-true _ _ (and-snd (leb (table f).fewest_rows (length (rows s))) (leb (length (rows s)) (table f).most_rows) q),
@@ -95,13 +94,13 @@ module _ (f : File) (s : List ℕ) (e : refusal f s ≡ none) where
   unfolding misfit rows
   fitting = go (records s) shape.1
     where
-      go : (rs : List (List (List ℕ))) → misfit f rs ≡ none → All (λ (vs : List (List ℕ)). eqb (width f) (length vs) ≡ true) (drop 1 rs)
+      go : (rs : List (List (List ℕ))) → misfit f rs ≡ None → All (λ (vs : List (List ℕ)). eqb (width f) (length vs) ≡ true) (drop 1 rs)
       go [] z = all_none
       go (r ∷ rs) z = same-header (same_fields r (header f)) z
         where
           same-header :
               (t : Bool) →
-              cond t (first (λ (vs : List (List ℕ)). not (eqb (width f) (length vs))) 1 rs) (some 0) ≡ none →
+              cond t (first (λ (vs : List (List ℕ)). not (eqb (width f) (length vs))) 1 rs) (Some 0) ≡ None →
               All (λ (vs : List (List ℕ)). eqb (width f) (length vs) ≡ true) rs
           same-header true z = first-none-all (λ (vs : List (List ℕ)). eqb (width f) (length vs)) 1 rs z
           same-header false z = let o : ◌≡◌ {A = ℕ} 0 1 = cc in absurd (omega arith)

@@ -1,10 +1,10 @@
 -- What a file's table makes of a field is the same for its value and for its text without the quotes around it: the two
 -- differ only where both hold a DQUOTE, and no numeral, no letter and no name of a column does. Assumes nothing.
+use Rattle.std.specs.Prelude.{None, Option}
 use Prim.Native.Nat.{ℕ}
 use mathlib.Core.Path.{◌≡◌, refl, sym, ◌∙◌}
 use mathlib.Core.Bool.{Bool, true, false, cond, not, ◌&&◌, and-false}
 use mathlib.Core.List.{List, [], ◌∷◌, ◌++◌, map}
-use mathlib.Core.Option.{Option, none}
 use native.Mathlib.Omega.{arith}
 use lib.Dec.{eqb}
 use borrow.Author.Tests.{eqb-false, ne_eqb, not-true}
@@ -18,20 +18,9 @@ use Rattle.numeral.specs.Numeral.{number, within}
 use Rattle.numeral.proofs.Laws.{no-numeral-around}
 use Rattle.tables.specs.declared.files.File.{File}
 use Rattle.tables.specs.declared.files.File.TheVariants.{Constraint, Supply, Schedules, Curves, Parents}
-use Rattle.tables.specs.Table.{
-  Form,
-  numeral,
-  signed,
-  letter,
-  Column,
-  constraint_columns,
-  supply_columns,
-  schedules_columns,
-  curves_columns,
-  parents_columns,
-  table,
-  header,
-}
+use Rattle.tables.specs.declared.columns.Form.{Form}
+use Rattle.tables.specs.declared.columns.Form.TheVariants.{Numeral as numeral, Signed as signed, Letter as letter}
+use Rattle.tables.specs.Table.{Column, constraint_columns, supply_columns, schedules_columns, curves_columns, parents_columns, table, header}
 use Rattle.tables.specs.Values.{MINUS, excess, one_of, in_form, value, cells, well_formed}
 use Rattle.tables.specs.Reading.{same_fields}
 
@@ -58,22 +47,22 @@ module _ (e : List ℕ) where
   quoted-differs (b ∷ a) [] h = refl
   quoted-differs (b ∷ a) (c ∷ w) h = rw (quoted-differs a w (quoteless-rest c w h)) (and-false (eqb b c))
 
-  quoted-number : (a : List ℕ) (least most : ℕ) → within least most (number (a ++ DQUOTE ∷ e)) ≡ none
+  quoted-number : (a : List ℕ) (least most : ℕ) → within least most (number (a ++ DQUOTE ∷ e)) ≡ None
   unfolding within
   quoted-number a least most = rw (no-numeral-around a e DQUOTE (λ d. omega arith))
 
-  quoted-excess : (a : List ℕ) (minimum maximum : ℕ) → excess minimum maximum (a ++ DQUOTE ∷ e) ≡ none
+  quoted-excess : (a : List ℕ) (minimum maximum : ℕ) → excess minimum maximum (a ++ DQUOTE ∷ e) ≡ None
   unfolding excess
   quoted-excess [] minimum maximum = rw (quoted-number [] 0 maximum)
   quoted-excess (b ∷ a) minimum maximum =
       rw (quoted-number a 1 minimum, quoted-number (b ∷ a) 0 maximum) (go (eqb b MINUS))
     where
-      go : (t : Bool) → ◌≡◌ {A = Option ℕ} (cond t none none) none
+      go : (t : Bool) → ◌≡◌ {A = Option ℕ} (cond t None None) None
       go true = refl
       go false = refl
 
   module _ (minimum maximum : ℕ) (low : minimum ≡ DQUOTE → ⊥) (high : maximum ≡ DQUOTE → ⊥) where
-    quoted-letter : (a : List ℕ) → one_of minimum maximum (a ++ DQUOTE ∷ e) ≡ none
+    quoted-letter : (a : List ℕ) → one_of minimum maximum (a ++ DQUOTE ∷ e) ≡ None
     unfolding one_of quoteless
     quoted-letter a =
         simp (
@@ -81,7 +70,7 @@ module _ (e : List ℕ) where
           quoted-differs a (maximum ∷ []) (simp (ne_eqb maximum DQUOTE high)),
         )
 
-    quoted-value : (form : Form) (a : List ℕ) → in_form form minimum maximum (a ++ DQUOTE ∷ e) ≡ none
+    quoted-value : (form : Form) (a : List ℕ) → in_form form minimum maximum (a ++ DQUOTE ∷ e) ≡ None
     unfolding in_form
     quoted-value numeral a = quoted-number a minimum maximum
     quoted-value signed a = quoted-excess a minimum maximum

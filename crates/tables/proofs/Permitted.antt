@@ -1,11 +1,11 @@
 -- That the cells of a file that is read are within the table's ranges, and what that says of its rows by name. Assumes
 -- nothing.
+use Rattle.std.specs.Prelude.{None, Option, Some, option_map, unwrap_or}
 use Prim.Native.Nat.{ℕ, ◌+◌, ◌-◌, ◌≤◌}
 use mathlib.Core.Path.{◌≡◌, refl}
 use mathlib.Core.Logic.{◌⊎◌, inl, inr}
 use mathlib.Core.Bool.{Bool, true, false, cond}
 use mathlib.Core.List.{List, [], ◌∷◌}
-use mathlib.Core.Option.{Option, none, some, map, get_or}
 use native.Mathlib.Omega.{arith}
 use lib.Dec.{eqb}
 use lib.ListN.{length}
@@ -25,33 +25,24 @@ use Rattle.tables.specs.promises.Ranges.{
   PermittedParent,
 }
 use Rattle.tables.specs.Rows.{constraint_row, supply_row, schedule_row, point_row, parent_row}
-use Rattle.tables.specs.Table.{
-  Form,
-  numeral,
-  signed,
-  letter,
-  Column,
-  constraint_columns,
-  supply_columns,
-  schedules_columns,
-  curves_columns,
-  parents_columns,
-}
+use Rattle.tables.specs.declared.columns.Form.{Form}
+use Rattle.tables.specs.declared.columns.Form.TheVariants.{Numeral as numeral, Signed as signed, Letter as letter}
+use Rattle.tables.specs.Table.{Column, constraint_columns, supply_columns, schedules_columns, curves_columns, parents_columns}
 use Rattle.tables.specs.Values.{MINUS, excess, one_of, in_form, value, is_some, cells, well_formed}
 
-mapped : (f : ℕ → ℕ) (o : Option ℕ) (x : ℕ) → map f o ≡ some x → (n : ℕ) × (o ≡ some n) × (x ≡ f n)
-mapped f none x e = let z : ◌≡◌ {A = ℕ} 0 1 = cc in absurd (omega arith)
-mapped f (some n) x e = (n, refl, cc)
+mapped : (f : ℕ → ℕ) (o : Option ℕ) (x : ℕ) → option_map f o ≡ Some x → (n : ℕ) × (o ≡ Some n) × (x ≡ f n)
+mapped f None x e = let z : ◌≡◌ {A = ℕ} 0 1 = cc in absurd (omega arith)
+mapped f (Some n) x e = (n, refl, cc)
 
-excess-permitted : (lo hi : ℕ) (v : List ℕ) (x : ℕ) → excess lo hi v ≡ some x → x ≤ lo + hi
+excess-permitted : (lo hi : ℕ) (v : List ℕ) (x : ℕ) → excess lo hi v ≡ Some x → x ≤ lo + hi
 unfolding excess
 excess-permitted lo hi [] x e = let z : ◌≡◌ {A = ℕ} 0 1 = cc in absurd (omega arith)
 excess-permitted lo hi (b ∷ s) x e = go (eqb b MINUS) e
   where
     go :
         (t : Bool) →
-        cond t (map (λ (n : ℕ). lo - n) (within 1 lo (number s))) (map (λ (n : ℕ). lo + n) (within 0 hi (number (b ∷ s))))
-        ≡ some x → x ≤ lo + hi
+        cond t (option_map (λ (n : ℕ). lo - n) (within 1 lo (number s))) (option_map (λ (n : ℕ). lo + n) (within 0 hi (number (b ∷ s))))
+        ≡ Some x → x ≤ lo + hi
     go true e =
         let m = mapped (λ (n : ℕ). lo - n) (within 1 lo (number s)) x e in
         omega (arith, m.2)
@@ -59,28 +50,28 @@ excess-permitted lo hi (b ∷ s) x e = go (eqb b MINUS) e
         let m = mapped (λ (n : ℕ). lo + n) (within 0 hi (number (b ∷ s))) x e in
         omega (arith, m.2, (within-some 0 hi m.0 (number (b ∷ s)) m.1).2)
 
-letter-permitted : (a b : ℕ) (v : List ℕ) (x : ℕ) → one_of a b v ≡ some x → (x ≡ a) ⊎ (x ≡ b)
+letter-permitted : (a b : ℕ) (v : List ℕ) (x : ℕ) → one_of a b v ≡ Some x → (x ≡ a) ⊎ (x ≡ b)
 unfolding one_of
 letter-permitted a b v x e = go (same v (a ∷ [])) (same v (b ∷ [])) e
   where
-    go : (p q : Bool) → cond p (some a) (cond q (some b) none) ≡ some x → (x ≡ a) ⊎ (x ≡ b)
+    go : (p q : Bool) → cond p (Some a) (cond q (Some b) None) ≡ Some x → (x ≡ a) ⊎ (x ≡ b)
     go true q e = inl cc
     go false true e = inr cc
     go false false e = let z : ◌≡◌ {A = ℕ} 0 1 = cc in absurd (omega arith)
 
-form-permitted : (f : Form) (lo hi : ℕ) (v : List ℕ) (x : ℕ) → in_form f lo hi v ≡ some x → Permits f lo hi x
+form-permitted : (f : Form) (lo hi : ℕ) (v : List ℕ) (x : ℕ) → in_form f lo hi v ≡ Some x → Permits f lo hi x
 unfolding in_form
 form-permitted numeral lo hi v x e = ((within-some lo hi x (number v) e).1, (within-some lo hi x (number v) e).2)
 form-permitted signed lo hi v x e = excess-permitted lo hi v x e
 form-permitted letter lo hi v x e = letter-permitted lo hi v x e
 
-value-permitted : (c : Column) (v : List ℕ) → is_some (value c v) ≡ true → Permits c.form c.minimum c.maximum (get_or (value c v) 0)
+value-permitted : (c : Column) (v : List ℕ) → is_some (value c v) ≡ true → Permits c.form c.minimum c.maximum (unwrap_or (value c v) 0)
 unfolding value is_some
 value-permitted c v e = go (value c v) refl e
   where
-    go : (o : Option ℕ) → value c v ≡ o → is_some o ≡ true → Permits c.form c.minimum c.maximum (get_or o 0)
-    go none q e = false-true e
-    go (some x) q e = form-permitted c.form c.minimum c.maximum v x q
+    go : (o : Option ℕ) → value c v ≡ o → is_some o ≡ true → Permits c.form c.minimum c.maximum (unwrap_or o 0)
+    go None q e = false-true e
+    go (Some x) q e = form-permitted c.form c.minimum c.maximum v x q
 
 -- a well-formed row of as many fields as columns
 pub row-permitted :

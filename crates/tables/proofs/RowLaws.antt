@@ -1,4 +1,5 @@
 -- Laws of laying down rows, over plain lists: field by field, and row by row. Assumes nothing.
+use Rattle.std.specs.Prelude.{None, Option, Some, is_some as is_there, unwrap_or}
 use Prim.Native.Nat.{ℕ, zero, suc, ◌+◌, ◌-◌, ◌*◌, ◌≤◌, ◌<◌}
 use mathlib.Core.Path.{◌≡◌, refl, sym, ◌∙◌, ap}
 use mathlib.Core.Bool.{Bool, true, false, ◌&&◌, and_assoc, and-true}
@@ -13,11 +14,8 @@ use Rattle.base.proofs.Searches.{joined, joined-none, joined-more, one-le}
 use Rattle.base.proofs.Lists.{drop-next, drop-end, drop-back, rest-lent, rest_back}
 use Rattle.base.specs.promises.Counting.{one, leading}
 use Rattle.csv_text.specs.promises.Fields.{extent, inner, unread, texts, passed, record_texts}
-use Rattle.numeral.specs.declared.Answer.{Answer}
-use Rattle.numeral.specs.declared.Answer.TheVariants.{Number, Refused}
-use Rattle.numeral.specs.promises.Answers.{numeral_answer}
-use Rattle.numeral.proofs.Laws.{answer-number, answer-refused}
-use Rattle.tables.specs.Table.{Column, column, numeral, constraint_columns, supply_columns, schedules_columns, curves_columns, parents_columns, table, width}
+use Rattle.tables.specs.Table.{Column, column, constraint_columns, supply_columns, schedules_columns, curves_columns, parents_columns, table, width}
+use Rattle.tables.specs.declared.columns.Form.TheVariants.{Numeral as numeral}
 use Rattle.tables.specs.Values.{value, is_some, cells, well_formed}
 use Rattle.tables.specs.promises.Laying.{FieldRead, RowLaid, RowsLaid}
 use Rattle.tables.specs.declared.files.File.{File}
@@ -111,29 +109,38 @@ laying-none s old first n fits room =
     whole : n - 0 ≡ n
     whole = omega arith
 
+-- whether there is a cell, by the test of the definitions and by the code's
+same_test : (o : Option ℕ) → is_some o ≡ is_there o
+unfolding is_some
+same_test None = refl
+same_test (Some n) = refl
+
 pub laying-next :
     (s old : List ℕ) (first n : ℕ) (new rest : List ℕ) (good : Bool) (c : ℕ) (r : Field) →
     Laying s old first n new rest good c → c < n → FieldRead (first + c) rest r →
-    Laying s old first n (set new c r.cell) (take (length rest - r.next) (drop r.next rest)) (good && r.good) (c + 1)
+    Laying s old first n (set new c (unwrap_or r.cell 0)) (take (length rest - r.next) (drop r.next rest)) (good && is_there r.cell) (c + 1)
 laying-next s old first n new rest good c r l h f =
     rw (rest-lent r.next rest)
     (record {
       upto = omega arith;
       fits = l.fits;
       room = l.room;
-      same_length = length-set new c r.cell ∙ l.same_length;
+      same_length = length-set new c cell ∙ l.same_length;
       at = l.at + r.next;
       suffix = rw l.suffix (drop-drop r.next l.at s);
       shorter = omega (arith, l.shorter, length-drop r.next rest);
       passes = l.passes ∙ passed-next n c h rest ∙ rw f.next;
       laid = l.laid ∙ one_more;
-      kept = drop-set-lt (c + 1) new c r.cell (omega arith) ∙ sym (drop-drop 1 c new) ∙ ap (drop 1) l.kept ∙ drop-drop 1 c old;
+      kept = drop-set-lt (c + 1) new c cell (omega arith) ∙ sym (drop-drop 1 c new) ∙ ap (drop 1) l.kept ∙ drop-drop 1 c old;
       formed = l.formed ∙ so_far;
     })
   where
+    cell : ℕ
+    cell = unwrap_or r.cell 0
+
     one_more :
         take c new ++ cells (drop c (part first n)) (texts (n - c) rest)
-        ≡ take (c + 1) (set new c r.cell) ++ cells (drop (c + 1) (part first n)) (texts (n - (c + 1)) (drop r.next rest))
+        ≡ take (c + 1) (set new c cell) ++ cells (drop (c + 1) (part first n)) (texts (n - (c + 1)) (drop r.next rest))
     one_more =
         unfold cells in
         rw (
@@ -141,16 +148,16 @@ laying-next s old first n new rest good c r l h f =
           texts-next n c h rest,
           ← f.cell,
           ← f.next,
-          take-set new c r.cell (rw l.same_length (omega (arith, l.room))),
+          take-set new c cell (rw l.same_length (omega (arith, l.room))),
           append_snoc,
         )
 
     so_far :
         (good && well_formed (drop c (part first n)) (texts (n - c) rest))
-        ≡ (good && r.good && well_formed (drop (c + 1) (part first n)) (texts (n - (c + 1)) (drop r.next rest)))
+        ≡ (good && is_there r.cell && well_formed (drop (c + 1) (part first n)) (texts (n - (c + 1)) (drop r.next rest)))
     so_far =
         unfold well_formed in
-        rw (part-next first n l.fits c h, texts-next n c h rest, ← f.good, ← f.next) (sym (and_assoc good r.good _))
+        rw (part-next first n l.fits c h, texts-next n c h rest, ← f.cell, ← f.next, same_test r.cell) (sym (and_assoc good (is_there r.cell) _))
 
 -- a whole row
 pub laying-over :
@@ -189,37 +196,16 @@ laying-over f s old new rest good c l h =
         sym (ap (λ (i : ℕ). drop i old) over) ∙ sym l.kept
 
 -- a field by its parts: its length n, its text, its cell, and what follows
-module _
-    (column : ℕ) (s text : List ℕ) (n next : ℕ) {a : Answer} (reaches : n ≡ extent false s)
-    (is : text ≡ inner (take (n - 0) s)) (read : a ≡ numeral_answer (value (column_at column) text))
-    (follows : drop next s ≡ unread s n) (inside : next ≤ length s)
-  where
-    field-value : value (column_at column) (inner (take (extent false s) s)) ≡ value (column_at column) text
-    field-value =
-        let whole : n - 0 ≡ extent false s = omega arith in
-        rw (is, whole)
-
-    pub field-number : (v : ℕ) → a ≡ Number v → FieldRead column s (record { good = true; cell = v; next = next })
-    unfolding is_some
-    field-number v e =
-        let is-v = answer-number v (value (column_at column) text) (sym e ∙ read) in
-        record {
-          within = inside;
-          next = follows ∙ rw reaches;
-          good = rw (field-value, is-v);
-          cell = rw (field-value, is-v);
-        }
-
-    pub field-refused : a ≡ Refused → FieldRead column s (record { good = false; cell = 0; next = next })
-    unfolding is_some
-    field-refused e =
-        let is_none = answer-refused (value (column_at column) text) (sym e ∙ read) in
-        record {
-          within = inside;
-          next = follows ∙ rw reaches;
-          good = rw (field-value, is_none);
-          cell = rw (field-value, is_none);
-        }
+pub field-read :
+    (column : ℕ) (s text : List ℕ) (n : ℕ) (r : Field) → n ≡ extent false s → text ≡ inner (take (n - 0) s) →
+    r.cell ≡ value (column_at column) text → drop r.next s ≡ unread s n → r.next ≤ length s → FieldRead column s r
+field-read column s text n r reaches is read follows inside =
+    let whole : n - 0 ≡ extent false s = omega arith in
+    record {
+      within = inside;
+      next = follows ∙ rw reaches;
+      cell = read ∙ rw (is, whole);
+    }
 
 pub cells-length : (cs : List Column) (vs : List (List ℕ)) → length vs ≡ length cs → length (cells cs vs) ≡ length cs
 unfolding cells

@@ -1,12 +1,12 @@
 -- Document 01's starred example, as far as reading goes: its three files are read to their rows by the definition, which
 -- the checker computes. Assumes nothing.
+use Rattle.std.specs.Prelude.{Ok}
 use Prim.Native.Nat.{ℕ}
 use mathlib.Core.Path.{◌≡◌, refl}
 use mathlib.Core.List.{List, [], ◌∷◌}
 use Rattle.base.specs.Text.{bytes, same}
 use Rattle.base.proofs.Computing.{search_all}
 use Rattle.tables.specs.Table.{M, C}
-use Rattle.tables.specs.declared.files.Reading.TheVariants.{Rows}
 use Rattle.tables.specs.declared.files.File.TheVariants.{Constraint, Supply, Schedules}
 use Rattle.tables.specs.promises.Answers.{reading, laid}
 use Rattle.csv_text.proofs.Computing.{reading_all}
@@ -31,15 +31,15 @@ unfoldable pub starred_all : Unit {0}
 unfolding search_all same reading_all numeral_all table_all values_all table_reading_all
 starred_all = tt
 
-constraint-read : reading Constraint constraint_file ≡ Rows 1
+constraint-read : reading Constraint constraint_file ≡ Ok 1
 unfolding starred_all
 constraint-read = refl
 
-supply-read : reading Supply supply_file ≡ Rows 4
+supply-read : reading Supply supply_file ≡ Ok 4
 unfolding starred_all
 supply-read = refl
 
-schedules-read : reading Schedules schedules_file ≡ Rows 7
+schedules-read : reading Schedules schedules_file ≡ Ok 7
 unfolding starred_all
 schedules-read = refl
 

@@ -1,9 +1,9 @@
 -- A file that is its header and then rows whose fields are well-formed is not refused, and its rows are those. Assumes nothing.
+use Rattle.std.specs.Prelude.{None}
 use Prim.Native.Nat.{ℕ, suc, ◌≤◌}
 use mathlib.Core.Path.{◌≡◌, refl, sym, ap}
 use mathlib.Core.Bool.{true, not}
 use mathlib.Core.List.{List, [], ◌∷◌, ◌++◌}
-use mathlib.Core.Option.{none}
 use lib.Dec.{eqb}
 use lib.ListN.{length}
 use borrow.Author.Tests.{eq-eqb, le-leb}
@@ -59,14 +59,14 @@ all-cells (RowsOf.more w l) = rw ((good w).read, all-cells l)
 module _ (f : File) where
   rows_fit :
       {vs : List (List (List ℕ))} {xs : List ℕ} (k : ℕ) → RowsOf (table f).columns vs xs →
-      first (λ (v : List (List ℕ)). not (eqb (width f) (length v))) k vs ≡ none
+      first (λ (v : List (List ℕ)). not (eqb (width f) (length v))) k vs ≡ None
   unfolding first width
   rows_fit k RowsOf.none = refl
   rows_fit k (RowsOf.more w l) = simp (eq-eqb _ _ (sym (good w).count), rows_fit (suc k) l)
 
   rows-formed :
       {vs : List (List (List ℕ))} {xs : List ℕ} (k : ℕ) → RowsOf (table f).columns vs xs →
-      first (λ (v : List (List ℕ)). not (well_formed (table f).columns v)) k vs ≡ none
+      first (λ (v : List (List ℕ)). not (well_formed (table f).columns v)) k vs ≡ None
   unfolding first
   rows-formed k RowsOf.none = refl
   rows-formed k (RowsOf.more w l) = simp ((good w).formed, rows-formed (suc k) l)
@@ -79,21 +79,21 @@ module _ (f : File) where
     unfolding rows
     values-are = rw (file-read file).1
 
-    pub well-shaped : misshapen f s ≡ none
+    pub well-shaped : misshapen f s ≡ None
     well-shaped = shape-right f s (file-read file).0 fit counts
       where
-        fit : misfit f (records s) ≡ none
+        fit : misfit f (records s) ≡ None
         fit = unfold misfit in rw (file-read file).1 (simp (same_names (header f)) (rows_fit 1 read))
 
-        counts : miscount f (length (rows s)) ≡ none
+        counts : miscount f (length (rows s)) ≡ None
         counts =
             unfold miscount in
             rw values-are (simp (le-leb (table f).fewest_rows (length vs) fewest, le-leb (length vs) (table f).most_rows most))
 
-    pub well-formed : malformed f (rows s) ≡ none
+    pub well-formed : malformed f (rows s) ≡ None
     unfolding malformed
     well-formed = rw values-are (rows-formed 1 read)
 
-    pub not-refused : refusal f s ≡ none
+    pub not-refused : refusal f s ≡ None
     unfolding refusal first_of
     not-refused = simp (well-shaped, well-formed)

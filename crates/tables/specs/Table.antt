@@ -5,15 +5,13 @@
 use Rattle.std.specs.Prelude.{ℕ, List, [], ◌∷◌, ◌++◌, map, length}
 use Prim.Native.String.{String}
 use Rattle.base.specs.Text.{bytes}
+-- what a field may hold: a numeral; a numeral, or `-` and a nonzero numeral, whose minimum stands in the table without the minus; one of
+-- two letters, which stand in the table as its minimum and maximum
+use Rattle.tables.specs.declared.columns.Form.{Form}
+use Rattle.tables.specs.declared.columns.Form.TheVariants.{Numeral as numeral, Signed as signed, Letter as letter}
 use Rattle.tables.specs.declared.files.File.{File}
 use Rattle.tables.specs.declared.files.File.TheVariants.{Constraint, Supply, Schedules, Curves, Parents}
 use Rattle.csv_text.specs.Bytes.{COMMA, CR, LF}
-
--- what a field may hold
-pub data Form : Type 0 where
-  numeral : Form  -- a numeral
-  signed : Form  -- a numeral, or `-` and a nonzero numeral. Its minimum stands in the table without the minus
-  letter : Form  -- one of two letters, which stand in the table as its minimum and maximum
 
 pub record Column : Type 0 where
   pub name : List ℕ

@@ -1,12 +1,10 @@
 // The permitted range of each column, and the cell of a field by it.
 ghost use Rattle.std.specs.Prelude.{◌≡◌, ◌+◌, ◌<◌, ◌^◌};
-ghost use Rattle.numeral.specs.promises.Answers.{numeral_answer};
 ghost use Rattle.tables.specs.Values.{value, excess as values_excess, one_of};
 ghost use Rattle.tables.specs.promises.Columns.{column_count, first_column, column_at};
 
 use crate::files::File;
 use crate::kinds::{C, M};
-use numeral::Answer;
 
 // The columns of all files, one file behind the other.
 const COLUMNS: usize = 24;
@@ -20,24 +18,47 @@ const HIGHEST_ECOMIN: u64 = 100000;
 
 const HIGHEST_COST: u64 = 370000;
 
-// A numeral.
-pub const NUMERAL: u8 = 0;
-// A numeral, or `-` and a nonzero numeral; the minimum stands without its minus.
-pub const SIGNED: u8 = 1;
-// One of two letters, the minimum or the maximum.
-const LETTER: u8 = 2;
+// What a field of a column may hold.
+#[derive(Clone, Copy, PartialEq, Eq)]
+pub enum Form {
+    // A numeral.
+    Numeral,
+    // A numeral, or `-` and a nonzero numeral; the minimum stands without its minus.
+    Signed,
+    // One of two letters, the minimum or the maximum.
+    Letter,
+}
 
-pub const FORM: [u8; COLUMNS] = [
+pub const FORM: [Form; COLUMNS] = [
     // hour, relief, cutoff
-    NUMERAL, NUMERAL, NUMERAL,
+    Form::Numeral,
+    Form::Numeral,
+    Form::Numeral,
     // unit, supplier, mw, cost, dfax
-    NUMERAL, NUMERAL, NUMERAL, NUMERAL, SIGNED,
+    Form::Numeral,
+    Form::Numeral,
+    Form::Numeral,
+    Form::Numeral,
+    Form::Signed,
     // unit, schedule, kind, hour, ecomin, price, noload, startup, minrun
-    NUMERAL, NUMERAL, LETTER, NUMERAL, NUMERAL, NUMERAL, NUMERAL, NUMERAL, NUMERAL,
+    Form::Numeral,
+    Form::Numeral,
+    Form::Letter,
+    Form::Numeral,
+    Form::Numeral,
+    Form::Numeral,
+    Form::Numeral,
+    Form::Numeral,
+    Form::Numeral,
     // unit, schedule, hour, mw, price
-    NUMERAL, NUMERAL, NUMERAL, NUMERAL, NUMERAL,
+    Form::Numeral,
+    Form::Numeral,
+    Form::Numeral,
+    Form::Numeral,
+    Form::Numeral,
     // supplier, parent
-    NUMERAL, NUMERAL,
+    Form::Numeral,
+    Form::Numeral,
 ];
 
 pub const MINIMUM: [u64; COLUMNS] = [
@@ -101,57 +122,49 @@ pub fn first_column(file: File) -> usize
 }
 
 // The cell of a field in a column, by its text without the quotes around it.
-pub fn cell(column: usize, text: &[u8]) -> Answer
+pub fn cell(column: usize, text: &[u8]) -> Option<u64>
     requires { column < column_count }
-    ensures { result ≡ numeral_answer (value (column_at column) text.now) }
+    ensures { result ≡ value (column_at column) text.now }
 {
     let form = FORM[column];
     let minimum = MINIMUM[column];
     let maximum = MAXIMUM[column];
-    if form == NUMERAL {
-        return numeral::read(text, minimum, maximum);
+    match form {
+        Form::Numeral => numeral::read(text, minimum, maximum),
+        Form::Signed => excess(text, minimum, maximum),
+        Form::Letter => one_of(text, minimum, maximum),
     }
-    if form == SIGNED {
-        return excess(text, minimum, maximum);
-    }
-    one_of(text, minimum, maximum)
 }
 
 // A signed number in excess of the minimum's size.
-fn excess(text: &[u8], minimum: u64, maximum: u64) -> Answer
+fn excess(text: &[u8], minimum: u64, maximum: u64) -> Option<u64>
     requires { minimum + maximum < 2 ^ 64 }
-    ensures { result ≡ numeral_answer (values_excess minimum maximum text.now) }
+    ensures { result ≡ values_excess minimum maximum text.now }
 {
     if text.len() == 0 {
-        return Answer::Refused;
+        return None;
     }
     if text[0] == MINUS {
-        let below = numeral::read(&text[1..], 1, minimum);
-        return match below {
-            Answer::Number(n) => Answer::Number(minimum - n),
-            Answer::Refused => Answer::Refused,
-        };
+        let below = numeral::read(&text[1..], 1, minimum)?;
+        return Some(minimum - below);
     }
-    let above = numeral::read(text, 0, maximum);
-    match above {
-        Answer::Number(n) => Answer::Number(minimum + n),
-        Answer::Refused => Answer::Refused,
-    }
+    let above = numeral::read(text, 0, maximum)?;
+    Some(minimum + above)
 }
 
 // One of two letters, as its byte.
-fn one_of(text: &[u8], a: u64, b: u64) -> Answer
-    ensures { result ≡ numeral_answer (one_of a b text.now) }
+fn one_of(text: &[u8], a: u64, b: u64) -> Option<u64>
+    ensures { result ≡ one_of a b text.now }
 {
     if text.len() != 1 {
-        return Answer::Refused;
+        return None;
     }
     let letter = text[0] as u64;
     if letter == a {
-        return Answer::Number(a);
+        return Some(a);
     }
     if letter == b {
-        return Answer::Number(b);
+        return Some(b);
     }
-    Answer::Refused
+    None
 }

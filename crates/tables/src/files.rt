@@ -1,8 +1,12 @@
-// The files by name, what reading one answers, and its sizes by the fixed table.
+// The files by name, why a call is refused, and a file's sizes by the fixed table.
 ghost use Rattle.std.specs.Prelude.{◌≡◌};
+ghost use Rattle.tables.specs.Refusals.{refused, bare_refusal};
 ghost use Rattle.tables.specs.Table.{table, width as table_width};
 
-// Why a call is refused: document 01's number, the file (0 for none) and the place in it.
+use std::fmt;
+
+// Why a call is refused: document 01's number, the file (0 for none) and the place in it. Numbers and no enum: the
+// definitions `refused` and `told` and what a host is told say them.
 #[derive(Clone, Copy)]
 pub struct Refusal {
     pub number: u64,
@@ -10,8 +14,39 @@ pub struct Refusal {
     pub place: u64,
 }
 
+impl Refusal {
+    // A refusal of a file at a place.
+    pub fn of(number: u64, file: File, place: u64) -> Refusal
+        ensures { result ≡ refused number file place }
+    {
+        Refusal {
+            number,
+            file: self::number(file),
+            place,
+        }
+    }
+
+    // One for which no file is named.
+    pub fn bare(number: u64) -> Refusal
+        ensures { result ≡ bare_refusal number }
+    {
+        Refusal {
+            number,
+            file: 0,
+            place: 0,
+        }
+    }
+}
+
+// Number, file and place, as programs print them.
+impl fmt::Display for Refusal {
+    fn fmt<W: fmt::Write>(&self, f: &mut fmt::Formatter<W>) -> fmt::Result {
+        write!(f, "{},{},{}", self.number, self.file, self.place)
+    }
+}
+
 // A schedule's kind: market-based or cost-based.
-#[derive(Clone, Copy)]
+#[derive(Clone, Copy, PartialEq, Eq)]
 pub enum Kind {
     M,
     C,
@@ -26,13 +61,7 @@ pub enum File {
     Parents,
 }
 
-// What reading a file gives: how many rows it has, or why it is refused.
-#[derive(Clone, Copy)]
-pub enum Reading {
-    Rows(usize),
-    Refused(Refusal),
-}
-
+// A file's number in document 01. No `From`: a file has other numbers too, and the name says which is meant.
 pub fn number(file: File) -> u64
     ensures { result ≡ (table file).number }
 {

@@ -5,7 +5,6 @@ ghost use Rattle.csv_text.specs.promises.Fields.{extent, inner, unread};
 ghost use Rattle.tables.specs.promises.Laying.{HeaderRead, FieldsCompared};
 
 use crate::files::{File, width};
-use crate::rows::both;
 use texts::same_text;
 
 // The header record of each file.
@@ -20,7 +19,8 @@ pub const CURVES_HEADER: [u8; 29] = *b"unit,schedule,hour,mw,price\r\n";
 
 pub const PARENTS_HEADER: [u8; 17] = *b"supplier,parent\r\n";
 
-// A header that was read: whether every field has its name, and where the first row begins.
+// A header that was read: whether every field has its name, and where the first row begins. No `Option`:
+// the place is told in either case.
 #[derive(Clone, Copy)]
 pub struct Header {
     pub same: bool,
@@ -46,14 +46,12 @@ fn compare_fields(s: &[u8], names: &[u8], count: usize) -> Header
     let mut rest = s;
     let mut left = names;
     let mut same = true;
-    let mut k = 0;
-    while k < count {
-        same = both(same, same_field(rest, left));
+    for _ in 0..count {
+        same &= same_field(rest, left);
         let next = next_field(rest);
         rest = &rest[next..];
         let further = next_field(left);
         left = &left[further..];
-        k += 1;
     }
     Header {
         same: same,

@@ -1,4 +1,5 @@
-// A schedule's kind by its letter, as a cell holds it. Assumes nothing.
+// A schedule's kind by its letter, as a cell holds it. No `From`: that a number is meant as a letter is said by
+// the name. Assumes nothing.
 ghost use Rattle.std.specs.Prelude.{◌≡◌};
 ghost use Rattle.tables.specs.Rows.{kind_of, letter_of};
 

@@ -13,9 +13,9 @@ mod reading;
 mod rows;
 
 pub use answer::AnswerRow;
-pub use columns::{FORM, MAXIMUM, MINIMUM, NUMERAL, SIGNED, first_column};
+pub use columns::{FORM, Form, MAXIMUM, MINIMUM, first_column};
 pub use constraint::ConstraintRow;
-pub use files::{File, Kind, Reading, Refusal, fewest_rows, most_rows, number, width};
+pub use files::{File, Kind, Refusal, fewest_rows, most_rows, number, width};
 pub use headers::{
     CONSTRAINT_HEADER, CURVES_HEADER, PARENTS_HEADER, SCHEDULES_HEADER, SUPPLY_HEADER,
 };

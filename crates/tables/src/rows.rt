@@ -1,24 +1,22 @@
 // Rows of a file, from its text to a lent run of cells. Fields are read as parts of the file that
 // begin where the field begins; an ill-formed one leaves a 0 in its cell.
-ghost use Rattle.std.specs.Prelude.{◌≡◌, ◌&&◌, ◌*◌, ◌≤◌, ◌<◌, eqb, length};
+ghost use Rattle.std.specs.Prelude.{◌*◌, ◌≤◌, ◌<◌, length};
 ghost use Rattle.tables.specs.Table.{width as table_width};
 ghost use Rattle.tables.specs.promises.Laying.{FieldRead, RowLaid, RowsLaid};
 ghost use Rattle.tables.specs.promises.Columns.{column_count};
-ghost use Rattle.base.specs.promises.Counting.{one};
 
 use crate::columns::{cell, first_column};
 use crate::files::{File, width};
-use numeral::Answer;
 
-// A field that was read: whether it is well-formed, its cell, and where what follows it begins.
+// A field that was read: its cell, if it is well-formed, and where what follows it begins.
 #[derive(Clone, Copy)]
 pub struct Field {
-    pub good: bool,
-    pub cell: u64,
+    pub cell: Option<u64>,
     pub next: usize,
 }
 
-// A row that was laid down: whether every field is well-formed, and where what follows it begins.
+// A row that was laid down: whether every field is well-formed, and where what follows it begins. No
+// `Option`: the place is told in either case.
 #[derive(Clone, Copy)]
 pub struct Row {
     pub good: bool,
@@ -35,28 +33,14 @@ pub fn lay_rows(file: File, s: &[u8], count: usize, cells: &mut [u64]) -> usize
     let mut rest = s;
     let mut at = 0;
     let mut run = 0;
-    let mut k = 0;
-    while k < count {
+    for k in 0..count {
         let row = lay_row(file, rest, &mut cells[at..]);
-        run += goes_on(run, k, row.good);
+        run += usize::from(run == k && row.good);
         let next = row.next;
         rest = &rest[next..];
         at += columns;
-        k += 1;
     }
     run
-}
-
-// 1 where all rows so far are well-formed and the next is too, else 0.
-fn goes_on(run: usize, k: usize, good: bool) -> usize
-    ensures { result ≡ one (eqb run k && good) }
-{
-    if run == k {
-        if good {
-            return 1;
-        }
-    }
-    0
 }
 
 fn lay_row(file: File, s: &[u8], out: &mut [u64]) -> Row
@@ -67,25 +51,17 @@ fn lay_row(file: File, s: &[u8], out: &mut [u64]) -> Row
     let columns = width(file);
     let mut rest = s;
     let mut good = true;
-    let mut c = 0;
-    while c < columns {
+    for c in 0..columns {
         let field = read_field(first + c, rest);
-        out[c] = field.cell;
-        good = both(good, field.good);
+        out[c] = field.cell.unwrap_or(0);
+        good &= field.cell.is_some();
         let next = field.next;
         rest = &rest[next..];
-        c += 1;
     }
     Row {
         good: good,
         next: s.len() - rest.len(),
     }
-}
-
-pub fn both(a: bool, b: bool) -> bool
-    ensures { result ≡ (a && b) }
-{
-    if a { b } else { false }
 }
 
 fn read_field(column: usize, s: &[u8]) -> Field
@@ -94,18 +70,8 @@ fn read_field(column: usize, s: &[u8]) -> Field
 {
     let n = csv_text::field_length(s);
     let text = csv_text::inner(&s[0..n]);
-    let answer = cell(column, text);
-    let next = csv_text::after_field(s, n);
-    match answer {
-        Answer::Number(v) => Field {
-            good: true,
-            cell: v,
-            next: next,
-        },
-        Answer::Refused => Field {
-            good: false,
-            cell: 0,
-            next: next,
-        },
+    Field {
+        cell: cell(column, text),
+        next: csv_text::after_field(s, n),
     }
 }

@@ -12,9 +12,7 @@ pub fn lettered(cells: &[u64], n: usize) -> bool
     requires { n * 7 ≤ length cells.now }
     ensures { result ≡ true → All Lettered (answer_rows n cells.now) }
 {
-    let mut i = n;
-    while 0 < i {
-        i -= 1;
+    for i in (0..n).rev() {
         if !row_lettered(cells, i) {
             return false;
         }

@@ -56,10 +56,8 @@ fn longest_answer(rt: &impl Print) -> io::Result<()> {
 // As many of the widest rows as an answer can have.
 fn widest() -> [u64; CELLS] {
     let mut cells = [0u64; CELLS];
-    let mut k = 0;
-    while k < CELLS {
-        cells[k] = rows::WIDEST[k % WIDTH];
-        k += 1;
+    for row in cells.chunks_exact_mut(WIDTH) {
+        row.copy_from_slice(&rows::WIDEST);
     }
     cells
 }
@@ -70,7 +68,7 @@ fn run(rt: &impl Print, cells: &[u64], n: usize, room: usize) -> io::Result<()>
     requires room_bound { room ≤ LONGEST }
 {
     if !letters::lettered(cells, n) {
-        return print(rt, b"no letters\n");
+        return rt.write_all(b"no letters\n");
     }
     let mut buffer = [b'.'; BUFFER];
     show(rt, cells, n, room, &mut buffer)
@@ -86,15 +84,11 @@ fn show(rt: &impl Print, cells: &[u64], n: usize, room: usize, out: &mut [u8]) -
     let needed = answer::length(cells, n);
     print!(rt; "{needed}")?;
     if room < needed {
-        return print(rt, b" too short\n");
+        return rt.write_all(b" too short\n");
     }
     let count = answer::write(cells, n, &mut out[0..room]);
     println!(rt; " {count}")?;
     let end = room + BEHIND;
-    print(rt, &out[0..end])?;
-    print(rt, b"\n")
-}
-
-fn print(rt: &impl Print, text: &[u8]) -> io::Result<()> {
-    rt.write_all(text)
+    rt.write_all(&out[0..end])?;
+    rt.write_all(b"\n")
 }

@@ -1,5 +1,5 @@
 // A text with escapes, and the bytes that it stands for. Assumes nothing of the text.
-ghost use Rattle.std.specs.Prelude.{◌≤◌, length};
+ghost use Rattle.std.specs.Prelude.{◌≤◌, ◌<◌, IfSome, length};
 
 const BACKSLASH: u8 = b'\\';
 
@@ -7,26 +7,24 @@ const BASE: u8 = 16;
 
 const TEN: u8 = 10;
 
-// A byte, and how many bytes of a text stand for it: none where they aren't in the form.
+// A byte, and how many bytes of a text stand for it.
 #[derive(Clone, Copy)]
 struct Step {
     used: usize,
     byte: u8,
 }
 
-const NONE: Step = Step { used: 0, byte: 0 };
-
-// Writes the bytes that a text stands for.
+// Writes the bytes that a text stands for, and answers how many; as many as there is room for where the text
+// isn't in the form, which counts like a text that is too long.
 pub fn put(text: &[u8], out: &mut [u8]) -> usize
     ensures { result ≤ length out.new }
 {
     let mut at = 0;
     let mut i = 0;
     while i < text.len() {
-        let step = next(&text[i..]);
-        if step.used == 0 {
+        let Some(step) = next(&text[i..]) else {
             return out.len();
-        }
+        };
         if out.len() <= at {
             return at;
         }
@@ -37,83 +35,63 @@ pub fn put(text: &[u8], out: &mut [u8]) -> usize
     at
 }
 
-// The first byte that a text stands for.
-fn next(text: &[u8]) -> Step
-    ensures { result.used ≤ length text.now }
+// The first byte that a text stands for; nothing where it isn't in the form.
+fn next(text: &[u8]) -> Option<Step>
+    ensures { IfSome result (λ step. (0 < step.used) × (step.used ≤ length text.now)) }
 {
     if text.len() == 0 {
-        return NONE;
+        return None;
     }
     if text[0] != BACKSLASH {
-        return Step {
+        return Some(Step {
             used: 1,
             byte: text[0],
-        };
+        });
     }
     if text.len() == 1 {
-        return NONE;
+        return None;
     }
     if text[1] == b'x' {
         return numbered(text);
     }
-    named(text[1])
+    let byte = named(text[1])?;
+    Some(Step { used: 2, byte })
 }
 
 // The byte behind `\`.
-fn named(name: u8) -> Step
-    ensures { result.used ≤ 2 }
-{
+fn named(name: u8) -> Option<u8> {
     match name {
-        b'r' => Step {
-            used: 2,
-            byte: b'\r',
-        },
-        b'n' => Step {
-            used: 2,
-            byte: b'\n',
-        },
-        b't' => Step {
-            used: 2,
-            byte: b'\t',
-        },
-        b's' => Step {
-            used: 2,
-            byte: b' ',
-        },
-        b'\\' => Step {
-            used: 2,
-            byte: BACKSLASH,
-        },
-        _ => NONE,
+        b'r' => Some(b'\r'),
+        b'n' => Some(b'\n'),
+        b't' => Some(b'\t'),
+        b's' => Some(b' '),
+        b'\\' => Some(BACKSLASH),
+        _ => None,
     }
 }
 
 // The byte of the two hexadecimal digits behind `\x`.
-fn numbered(text: &[u8]) -> Step
-    ensures { result.used ≤ length text.now }
+fn numbered(text: &[u8]) -> Option<Step>
+    ensures { IfSome result (λ step. (0 < step.used) × (step.used ≤ length text.now)) }
 {
     if text.len() < 4 {
-        return NONE;
+        return None;
     }
-    let high = value(text[2]);
-    let low = value(text[3]);
-    if BASE <= high {
-        return NONE;
-    }
-    if BASE <= low {
-        return NONE;
-    }
-    Step {
+    let high = value(text[2])?;
+    let low = value(text[3])?;
+    Some(Step {
         used: 4,
         byte: BASE * high + low,
-    }
+    })
 }
 
-// What a digit stands for; the base for a byte that is no digit.
-fn value(digit: u8) -> u8 {
+// What a digit stands for; nothing for a byte that is no digit.
+fn value(digit: u8) -> Option<u8>
+    ensures { IfSome result (λ v. v < 16) }
+{
     match digit {
-        b'0'..=b'9' => digit - b'0',
-        b'A'..=b'F' => digit - b'A' + TEN,
-        _ => BASE,
+        b'0'..=b'9' => Some(digit - b'0'),
+        b'A'..=b'F' => Some(digit - b'A' + TEN),
+        _ => None,
     }
 }

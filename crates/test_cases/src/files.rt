@@ -3,7 +3,6 @@ ghost use Rattle.std.specs.Prelude.{◌≤◌, length};
 
 use crate::escapes::put;
 use crate::lines::{BLANK, LF};
-use numeral::Answer;
 use tables::{
     CONSTRAINT_HEADER, CURVES_HEADER, File, PARENTS_HEADER, SCHEDULES_HEADER, SUPPLY_HEADER,
 };
@@ -29,7 +28,7 @@ pub fn put_header(file: File, out: &mut [u8]) -> usize
 pub fn put_many(text: &[u8], out: &mut [u8]) -> usize
     ensures { result ≤ length out.new }
 {
-    let Answer::Number(count) = numeral::read(first(text, BLANK), 0, MOST) else {
+    let Some(count) = numeral::read(first(text, BLANK), 0, MOST) else {
         return out.len();
     };
     let row = after(text, BLANK);
@@ -43,10 +42,8 @@ fn repeat(count: u64, text: &[u8], out: &mut [u8]) -> usize
     ensures { result ≤ length out.new }
 {
     let mut at = 0;
-    let mut k = 0;
-    while k < count {
+    for _ in 0..count {
         at += put(text, &mut out[at..]);
-        k += 1;
     }
     at
 }

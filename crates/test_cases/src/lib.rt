@@ -5,7 +5,8 @@
 //
 // A writer writes at the start of `out` and answers how many bytes it wrote, or the whole of `out`
 // where the text isn't in the form or has no room. A writer behind it then has no room either, so
-// bytes that fill their buffer are those of a case that can't be read. Assumes nothing.
+// bytes that fill their buffer are those of a case that can't be read; with an `Option` in its place a file
+// that just fills its room would be read. Assumes nothing.
 #![tactic(auto)]
 
 mod escapes;
@@ -17,5 +18,5 @@ mod reading;
 pub use escapes::put;
 pub use files::{put_file, put_header, put_many};
 pub use lines::{BLANK, LF, is_case};
-pub use printing::{print, print_three, unreadable};
-pub use reading::read_input;
+pub use printing::unreadable;
+pub use reading::{each_line, read_input};

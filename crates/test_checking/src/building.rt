@@ -32,7 +32,8 @@ pub fn answer(rt: &impl Print, text: &[u8], line: &[u8]) -> io::Result<()> {
     with_constraint(rt, text, line)
 }
 
-// Writes the constraint, and goes on to the other files.
+// Writes the constraint, and goes on to the other files. Each file has a function, in whose frame its room
+// lies while the next is written.
 fn with_constraint(rt: &impl Print, text: &[u8], line: &[u8]) -> io::Result<()> {
     let mut bytes = [0u8; FILE];
     let count = build(File::Constraint, text, line, &mut bytes);
@@ -91,10 +92,8 @@ fn put_rows(file: File, text: &[u8], rows: &[u8], out: &mut [u8]) -> usize
     ensures { result ≤ length out.new }
 {
     let mut at = 0;
-    let mut i = 0;
-    while i < rows.len() {
-        at += put_byte(file, text, rows[i], &mut out[at..]);
-        i += 1;
+    for byte in rows {
+        at += put_byte(file, text, *byte, &mut out[at..]);
     }
     at
 }

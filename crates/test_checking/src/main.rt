@@ -20,8 +20,8 @@ mod building;
 mod report;
 
 use std::io;
-use test_cases::{LF, read_input};
-use texts::{behind, first};
+use test_cases::{LF, each_line, read_input};
+use texts::first;
 
 // Room for all cases.
 const INPUT: usize = 65536;
@@ -33,11 +33,5 @@ fn main(rt: HostRuntime) -> io::Result<()> {
 }
 
 fn run(rt: &impl Print, text: &[u8]) -> io::Result<()> {
-    let mut rest = text;
-    while 0 < rest.len() {
-        building::answer(rt, text, first(rest, LF))?;
-        let next = behind(rest, LF);
-        rest = &rest[next..];
-    }
-    Ok(())
+    each_line(text, |rest| building::answer(rt, text, first(rest, LF)))
 }

@@ -1,10 +1,8 @@
 // A case, from its lines to the unit's rows and how it stands. Assumes nothing of the lines.
 use crate::report::case;
-use choice::DayKind;
 use hours::LAST_HOUR;
-use numeral::Answer;
 use std::io;
-use tables::File;
+use tables::{File, Kind};
 use test_cases::{BLANK, LF, put_file, unreadable};
 use texts::{after, first, same_text};
 
@@ -17,7 +15,7 @@ pub fn answer(rt: &impl Print, text: &[u8]) -> io::Result<()> {
     if !test_cases::is_case(line) {
         return Ok(());
     }
-    let Answer::Number(hour) = numeral::read(first(line, BLANK), 0, LAST_HOUR) else {
+    let Some(hour) = numeral::read(first(line, BLANK), 0, LAST_HOUR) else {
         return unreadable(rt);
     };
     exposed(rt, hour, after(line, BLANK), after(text, LF))
@@ -43,17 +41,23 @@ fn running(
     rows: &[u8],
 ) -> io::Result<()> {
     if same_text(word, b"not-running") {
-        ask(rt, hour, is_exposed, DayKind::NotRunning, rows)
+        ask(rt, hour, is_exposed, None, rows)
     } else if same_text(word, b"on-M") {
-        ask(rt, hour, is_exposed, DayKind::OnM, rows)
+        ask(rt, hour, is_exposed, Some(Kind::M), rows)
     } else if same_text(word, b"on-C") {
-        ask(rt, hour, is_exposed, DayKind::OnC, rows)
+        ask(rt, hour, is_exposed, Some(Kind::C), rows)
     } else {
         unreadable(rt)
     }
 }
 
-fn ask(rt: &impl Print, hour: u64, is_exposed: bool, day: DayKind, rows: &[u8]) -> io::Result<()> {
+fn ask(
+    rt: &impl Print,
+    hour: u64,
+    is_exposed: bool,
+    day: Option<Kind>,
+    rows: &[u8],
+) -> io::Result<()> {
     let mut schedules = [0u8; FILE];
     let count = put_file(File::Schedules, rows, &mut schedules);
     if count == FILE {

@@ -6,12 +6,12 @@ ghost use Rattle.choice.specs.promises.Ranges.{ScheduleCells};
 
 use cells::schedule::{UNIT, cell};
 use checking::SCHEDULE_CELLS;
-use choice::{Choice, Chosen, DayKind};
+use choice::Choice;
 use links::LENGTH;
 use schedules::link_rows;
 use std::io;
-use tables::{File, Kind, Reading};
-use test_cases::{print, unreadable};
+use tables::{File, Kind};
+use test_cases::unreadable;
 
 // The choice for the unit of a schedules file, whose rows are lent as the cells that reading lays
 // down.
@@ -19,14 +19,14 @@ pub fn case(
     rt: &impl Print,
     hour: u64,
     is_exposed: bool,
-    day: DayKind,
+    day: Option<Kind>,
     schedules: &[u8],
 ) -> io::Result<()> {
     let mut cells = [0u64; SCHEDULE_CELLS];
     let reading = tables::read(File::Schedules, schedules, &mut cells);
     match reading {
-        Reading::Rows(n) => choose(rt, &cells, n, hour, is_exposed, day),
-        Reading::Refused(_) => unreadable(rt),
+        Ok(n) => choose(rt, &cells, n, hour, is_exposed, day),
+        Err(_) => unreadable(rt),
     }
 }
 
@@ -36,7 +36,7 @@ fn choose(
     n: usize,
     hour: u64,
     is_exposed: bool,
-    day: DayKind,
+    day: Option<Kind>,
 ) -> io::Result<()>
     requires { ScheduleCells n cells.now }
 {
@@ -52,14 +52,14 @@ fn choose_linked(
     links: &[u16],
     hour: u64,
     is_exposed: bool,
-    day: DayKind,
+    day: Option<Kind>,
 ) -> io::Result<()>
     requires schedule_cells { ScheduleCells n cells.now }
     requires rows_linked { RowsLinked cells.now n links.now }
 {
     match choice::choose(cells, n, links, unit(cells, n), hour, is_exposed, day) {
-        Chosen::Schedule(c) => print_choice(rt, c),
-        Chosen::Nothing => print(rt, b"nothing\n"),
+        Some(c) => print_choice(rt, c),
+        None => rt.write_all(b"nothing\n"),
     }
 }
 
@@ -74,8 +74,8 @@ fn print_choice(rt: &impl Print, c: Choice) -> io::Result<()> {
     print!(rt; "{}", c.schedule)?;
     let kind = c.kind;
     match kind {
-        Kind::M => print(rt, b" M ")?,
-        Kind::C => print(rt, b" C ")?,
+        Kind::M => rt.write_all(b" M ")?,
+        Kind::C => rt.write_all(b" C ")?,
     }
     println!(rt; "{}", c.cost)
 }

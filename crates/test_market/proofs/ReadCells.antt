@@ -1,8 +1,9 @@
 -- The cells of a supply file that was read are rows within the table's ranges. Assumes nothing.
+use Rattle.std.specs.Prelude.{None, Ok, Result}
+use Rattle.tables.specs.declared.files.Refusal.{Refusal}
 use Prim.Native.Nat.{ℕ, ◌≤◌}
 use mathlib.Core.Path.{◌≡◌, ap}
 use mathlib.Core.List.{List, map, Memᴰ}
-use mathlib.Core.Option.{none}
 use native.Mathlib.Omega.{arith}
 use lib.ListN.{length, drop}
 use Rattle.base.specs.Search.{All, all_none, all_more}
@@ -14,8 +15,6 @@ use Rattle.tables.specs.Rows.{SupplyRow, supply_row}
 use Rattle.tables.specs.Table.{constraint_columns, supply_columns, schedules_columns, width}
 use Rattle.tables.specs.Values.{cells as cells_of}
 use Rattle.tables.specs.declared.files.File.TheVariants.{Supply}
-use Rattle.tables.specs.declared.files.Reading.{Reading}
-use Rattle.tables.specs.declared.files.Reading.TheVariants.{Rows}
 use Rattle.tables.proofs.Accepted.{accepted}
 use Rattle.tables.proofs.Permitted.{supply-permitted}
 use Rattle.tables.specs.promises.Answers.{laid}
@@ -38,8 +37,8 @@ all-permitted :
 all-permitted all_none r m = elim m [ ]
 all-permitted (all_more p ps) r m = for-cons PermittedSupply (supply-permitted p) (all-permitted ps) r m
 
-module _ (s old new : List ℕ) (r : Reading) (n : ℕ) (w : FileRead Supply s old new r) (e : r ≡ Rows n) where
-  taken : refusal Supply s ≡ none
+module _ (s old new : List ℕ) (r : Result ℕ Refusal) (n : ℕ) (w : FileRead Supply s old new r) (e : r ≡ Ok n) where
+  taken : refusal Supply s ≡ None
   taken = (was_read Supply s w.answers e).0
 
   count : n ≡ length (rows s)

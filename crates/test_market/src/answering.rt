@@ -1,9 +1,8 @@
 // A case, from its lines to what it is about. Assumes nothing of the lines.
 use crate::report::{case, print_number};
-use numeral::Answer;
 use std::io;
 use tables::File;
-use test_cases::{BLANK, LF, print, put_file, unreadable};
+use test_cases::{BLANK, LF, put_file, unreadable};
 use texts::{after, first, same_text};
 
 // The largest relief.
@@ -30,19 +29,19 @@ pub fn answer(rt: &impl Print, text: &[u8]) -> io::Result<()> {
 }
 
 fn offer(rt: &impl Print, number: &[u8]) -> io::Result<()> {
-    let Answer::Number(cost) = numeral::read(number, 0, u64::MAX) else {
+    let Some(cost) = numeral::read(number, 0, u64::MAX) else {
         return unreadable(rt);
     };
     print_number(rt, b"", cost)?;
     print_number(rt, b" ", offers::capped(cost))?;
-    print(rt, b"\n")
+    rt.write_all(b"\n")
 }
 
 fn market(rt: &impl Print, numbers: &[u8], rows: &[u8]) -> io::Result<()> {
-    let Answer::Number(relief) = numeral::read(first(numbers, BLANK), 0, u64::MAX) else {
+    let Some(relief) = numeral::read(first(numbers, BLANK), 0, u64::MAX) else {
         return unreadable(rt);
     };
-    let Answer::Number(cutoff) = numeral::read(after(numbers, BLANK), 0, u64::MAX) else {
+    let Some(cutoff) = numeral::read(after(numbers, BLANK), 0, u64::MAX) else {
         return unreadable(rt);
     };
     supplied(rt, relief, cutoff, rows)

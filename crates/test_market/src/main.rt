@@ -13,8 +13,7 @@ mod answering;
 mod report;
 
 use std::io;
-use test_cases::{LF, read_input};
-use texts::behind;
+use test_cases::{each_line, read_input};
 
 // Room for all cases.
 const INPUT: usize = 65536;
@@ -26,11 +25,5 @@ fn main(rt: HostRuntime) -> io::Result<()> {
 }
 
 fn run(rt: &impl Print, text: &[u8]) -> io::Result<()> {
-    let mut rest = text;
-    while 0 < rest.len() {
-        answering::answer(rt, rest)?;
-        let next = behind(rest, LF);
-        rest = &rest[next..];
-    }
-    Ok(())
+    each_line(text, |rest| answering::answer(rt, rest))
 }

@@ -8,10 +8,9 @@ ghost use Rattle.std.specs.Prelude.{◌≤◌, ◌<◌, length};
 ghost use Rattle.offers.specs.promises.Ranges.{SupplyCells};
 
 use checking::SUPPLY_CELLS;
-use pivotal::{Answer, Finding};
+use pivotal::{Finding, Tested};
 use std::io;
-use tables::{File, Reading};
-use test_cases::print;
+use tables::File;
 
 // Room for the suppliers of so many rows, and for one more.
 const SUPPLIERS: usize = 257;
@@ -25,10 +24,10 @@ pub fn case(rt: &impl Print, relief: u64, cutoff: u64, supply: &[u8]) -> io::Res
     let mut cells = [0u64; SUPPLY_CELLS];
     let reading = tables::read(File::Supply, supply, &mut cells);
     match reading {
-        Reading::Rows(n) => print_market(rt, &cells, n, cutoff, need)?,
-        Reading::Refused(refusal) => print_number(rt, b"refused ", refusal.number)?,
+        Ok(n) => print_market(rt, &cells, n, cutoff, need)?,
+        Err(refusal) => print_number(rt, b"refused ", refusal.number)?,
     }
-    print(rt, b"\n")
+    rt.write_all(b"\n")
 }
 
 fn print_market(rt: &impl Print, cells: &[u64], n: usize, cutoff: u64, need: u64) -> io::Result<()>
@@ -38,10 +37,10 @@ fn print_market(rt: &impl Print, cells: &[u64], n: usize, cutoff: u64, need: u64
     print_number(rt, b"need ", need)?;
     print_number(rt, b" supply ", supply)?;
     if supply < need {
-        print(rt, b" short")?;
+        rt.write_all(b" short")?;
     }
     let clearing = market::clearing_row(cells, n, cutoff, need);
-    print(rt, b" rows")?;
+    rt.write_all(b" rows")?;
     print_rows(rt, cells, n, cutoff, clearing)?;
     if clearing < n {
         print_number(rt, b" clears ", clearing as u64)?;
@@ -59,11 +58,9 @@ fn print_rows(
 ) -> io::Result<()>
     requires { SupplyCells n cells.now }
 {
-    let mut row = 0;
-    while row < n {
+    for row in 0..n {
         print_number(rt, b" ", offers::effective_supply(cells, row))?;
         print_letter(rt, cells, n, cutoff, clearing, row)?;
-        row += 1;
     }
     Ok(())
 }
@@ -81,13 +78,13 @@ fn print_letter(
 {
     if clearing < n {
         if offers::is_relevant(cells, row, clearing, cutoff) {
-            return print(rt, b"r");
+            return rt.write_all(b"r");
         }
     }
     if offers::is_eligible(cells, row, cutoff) {
-        return print(rt, b"e");
+        return rt.write_all(b"e");
     }
-    print(rt, b"-")
+    rt.write_all(b"-")
 }
 
 fn print_suppliers(
@@ -105,7 +102,7 @@ fn print_suppliers(
     let count = market::list_parties(cells, n, &mut suppliers);
     let mut amounts = [0u64; SUPPLIERS];
     market::add_amounts(cells, n, cutoff, clearing, &suppliers, count, &mut amounts);
-    print(rt, b" suppliers")?;
+    rt.write_all(b" suppliers")?;
     print_tests(rt, &suppliers, &amounts, count, need)
 }
 
@@ -119,32 +116,30 @@ fn print_tests(
     requires count_in_bounds { count ≤ length suppliers.now }
     requires count_in_bounds_2 { count ≤ length amounts.now }
 {
-    let mut place = 0;
-    while place < count {
+    for place in 0..count {
         print_number(rt, b" ", suppliers[place])?;
         print_number(rt, b":", amounts[place])?;
         print_test(rt, &amounts[0..count], place, need)?;
-        place += 1;
     }
     Ok(())
 }
 
 fn print_test(rt: &impl Print, amounts: &[u64], place: usize, need: u64) -> io::Result<()> {
     match pivotal::test(amounts, place, need) {
-        Answer::Tested(left, found) => print_tested(rt, left, found),
-        Answer::Refused => print(rt, b":refused"),
+        Some(tested) => print_tested(rt, tested),
+        None => rt.write_all(b":refused"),
     }
 }
 
-fn print_tested(rt: &impl Print, left: u64, found: Finding) -> io::Result<()> {
-    print_number(rt, b":", left)?;
-    match found {
-        Finding::Passes => print(rt, b"P"),
-        Finding::Fails => print(rt, b"F"),
+fn print_tested(rt: &impl Print, tested: Tested) -> io::Result<()> {
+    print_number(rt, b":", tested.left)?;
+    match tested.found {
+        Finding::Passes => rt.write_all(b"P"),
+        Finding::Fails => rt.write_all(b"F"),
     }
 }
 
 pub fn print_number(rt: &impl Print, before: &[u8], number: u64) -> io::Result<()> {
-    print(rt, before)?;
+    rt.write_all(before)?;
     print!(rt; "{number}")
 }

@@ -1,7 +1,6 @@
 // What a case prints. Assumes that no column permits the largest 64-bit number.
 use std::io;
-use tables::{File, Reading};
-use test_cases::{print, print_three};
+use tables::File;
 
 // The cells of the longest file: 4,096 rows of 5.
 const CELLS: usize = 20480;
@@ -14,33 +13,31 @@ pub fn case(rt: &impl Print, file: File, bytes: &[u8]) -> io::Result<()> {
     let mut cells = [UNTOUCHED; CELLS];
     let reading = onepass::read(file, bytes, &mut cells);
     match reading {
-        Reading::Rows(rows) => print_rows(rt, rows, &cells),
-        Reading::Refused(refusal) => print_three(rt, refusal.number, refusal.file, refusal.place),
+        Ok(rows) => print_rows(rt, rows, &cells),
+        Err(refusal) => println!(rt; "{refusal}"),
     }
 }
 
 fn print_rows(rt: &impl Print, rows: usize, cells: &[u64]) -> io::Result<()> {
     print!(rt; "rows {rows}:")?;
     print_cells(rt, cells)?;
-    print(rt, b"\n")
+    rt.write_all(b"\n")
 }
 
 // Prints the cells that reading has written.
 fn print_cells(rt: &impl Print, cells: &[u64]) -> io::Result<()> {
-    let mut i = 0;
-    while i < cells.len() {
-        if cells[i] == UNTOUCHED {
+    for (i, cell) in cells.iter().enumerate() {
+        if *cell == UNTOUCHED {
             return Ok(());
         }
-        print_cell(rt, i, cells[i])?;
-        i += 1;
+        print_cell(rt, i, *cell)?;
     }
     Ok(())
 }
 
 fn print_cell(rt: &impl Print, i: usize, cell: u64) -> io::Result<()> {
     if 0 < i {
-        print(rt, b",")?;
+        rt.write_all(b",")?;
     }
     print!(rt; "{cell}")
 }

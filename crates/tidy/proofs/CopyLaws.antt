@@ -140,10 +140,6 @@ end_short s = go (eqb (get_or s (length s - 1) 0) LF)
     go false = omega arith
 
 -- the end of a file
-pub no-last-byte : (s : List ℕ) → length s ≡ 0 → false ≡ eqb (get_or s (length s - 1) 0) LF
-no-last-byte [] e = refl
-no-last-byte (b ∷ s) e = absurd (omega arith)
-
 pub has_end : (s : List ℕ) → eqb (get_or s (length s - 1) 0) LF ≡ true → last_end s ≡ []
 unfolding last_end
 has_end s e = simp e

@@ -1,8 +1,8 @@
 -- A call that is lent as many bytes as the longest tidy file has is never refused for a short buffer. Assumes nothing.
+use Rattle.std.specs.Prelude.{None, Option, Some}
 use Prim.Native.Nat.{ℕ, ◌≤◌}
 use mathlib.Core.Path.{◌≡◌, refl, ◌∙◌}
 use mathlib.Core.List.{List}
-use mathlib.Core.Option.{Option, none, some}
 use native.Mathlib.Omega.{arith}
 use lib.ListN.{length}
 use borrow.Author.Tests.{le-leb}
@@ -18,7 +18,7 @@ use Rattle.tidy.proofs.LongestLaws.{rows-longest}
 use Rattle.tidy.proofs.TidyRows.{alone-allowed}
 
 module _ (f : File) (s : List ℕ) (room : ℕ) (enough : longest_tidy f ≤ room) where
-  not_short : first_of (alone_refusals f s) ≡ none → short_for_tidy (tidy_of f s) room ≡ none
+  not_short : first_of (alone_refusals f s) ≡ None → short_for_tidy (tidy_of f s) room ≡ None
   unfolding short_for_tidy unless tidy_of
   not_short e = rw (le-leb (length (tidy_of f s)) room (omega (arith, rows-longest f (alone-allowed f s e))))
 
@@ -27,6 +27,6 @@ module _ (f : File) (s : List ℕ) (room : ℕ) (enough : longest_tidy f ≤ roo
   never-30 = go (first_of (alone_refusals f s)) refl
     where
       go : (o : Option Refusal) → first_of (alone_refusals f s) ≡ o → first_of (tidy_refusals f s room) ≡ o
-      go none e =
+      go None e =
           first-of-rest (alone_refusals f s) _ e ∙ first-of-one (short_for_tidy (tidy_of f s) room) ∙ not_short e
-      go (some r) e = first-of-part (alone_refusals f s) _ r e
+      go (Some r) e = first-of-part (alone_refusals f s) _ r e

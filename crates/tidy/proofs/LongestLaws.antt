@@ -1,10 +1,10 @@
 -- No tidy file is longer than the longest: field by field, none is wider than that of its column's widest cell, and rows are no more
 -- than the table permits. Assumes nothing.
+use Rattle.std.specs.Prelude.{None}
 use Prim.Native.Nat.{ℕ, zero, suc, ◌+◌, ◌-◌, ◌≤◌}
 use mathlib.Core.Path.{◌≡◌, refl}
 use mathlib.Core.Bool.{Bool, true, false, cond, not}
 use mathlib.Core.List.{List, [], ◌∷◌, map}
-use mathlib.Core.Option.{none}
 use native.Mathlib.Omega.{arith}
 use lib.Dec.{leb, ltb}
 use lib.ListN.{length, replicate, length-append}
@@ -15,7 +15,9 @@ use Rattle.base.proofs.Searches.{first-none-all}
 use Rattle.csv_text.specs.Bytes.{COMMA, CR, LF}
 use Rattle.numeral.specs.Numeral.{digits}
 use Rattle.numeral.proofs.Laws.{length-longer}
-use Rattle.tables.specs.Table.{Form, numeral, signed, letter, Column, table, header, joined, record_text, constraint_columns, supply_columns, schedules_columns, curves_columns, parents_columns}
+use Rattle.tables.specs.Table.{Column, table, header, joined, record_text, constraint_columns, supply_columns, schedules_columns, curves_columns, parents_columns}
+use Rattle.tables.specs.declared.columns.Form.{Form}
+use Rattle.tables.specs.declared.columns.Form.TheVariants.{Numeral as numeral, Signed as signed, Letter as letter}
 use Rattle.tables.specs.Reading.{refusal}
 use Rattle.tables.specs.Values.{MINUS}
 use Rattle.tables.specs.declared.files.File.{File}
@@ -38,7 +40,7 @@ low-columns : (f : File) → All (λ (c : Column). low c ≡ true) (table f).col
 unfolding first constraint_columns supply_columns schedules_columns curves_columns parents_columns
 low-columns f = first-none-all low 0 (table f).columns (found f)
   where
-    found : (f : File) → first (λ (c : Column). not (low c)) 0 (table f).columns ≡ none
+    found : (f : File) → first (λ (c : Column). not (low c)) 0 (table f).columns ≡ None
     found Constraint = refl
     found Supply = refl
     found Schedules = refl
@@ -124,6 +126,6 @@ rows-longest f {rows} a =
       records-longest cs (low-columns f) (table f).most_rows a.permitted a.most,
     )
 
-pub tidy-longest : (f : File) (s : List ℕ) → refusal f s ≡ none → length (tidy_of f s) ≤ longest_tidy f
+pub tidy-longest : (f : File) (s : List ℕ) → refusal f s ≡ None → length (tidy_of f s) ≤ longest_tidy f
 unfolding tidy_of
 tidy-longest f s e = rows-longest f (read-allowed f s e)

@@ -1,10 +1,10 @@
 -- A file that reading doesn't refuse is its header and then rows in which no field needs quotes, so its tidy file is its records,
 -- written. Assumes nothing.
+use Rattle.std.specs.Prelude.{None, Option, Some}
 use Prim.Native.Nat.{ℕ}
 use mathlib.Core.Path.{◌≡◌, refl, sym, ap, ap₂}
 use mathlib.Core.Bool.{Bool, true, false, cond}
 use mathlib.Core.List.{List, [], ◌∷◌, map}
-use mathlib.Core.Option.{Option, none, some}
 use native.Mathlib.Omega.{arith}
 use lib.Dec.{eqb}
 use lib.ListN.{length}
@@ -32,7 +32,7 @@ same-fields-eq (v ∷ vs) [] e = false-true e
 same-fields-eq (v ∷ vs) (w ∷ ws) e =
     ap₂ ◌∷◌ (same-eq v w (and-fst (same v w) (same_fields vs ws) e)) (same-fields-eq vs ws (and-snd (same v w) (same_fields vs ws) e))
 
-none-cond : (t : Bool) (o : Option ℕ) → cond t o (some 0) ≡ none → t ≡ true
+none-cond : (t : Bool) (o : Option ℕ) → cond t o (Some 0) ≡ None → t ≡ true
 none-cond true o e = refl
 none-cond false o e = let z : ◌≡◌ {A = ℕ} 0 1 = cc in absurd (omega arith)
 
@@ -50,10 +50,10 @@ module _ (f : File) where
       let more = rows-shown ps qs in
       (ap₂ ◌∷◌ (cells-shown (table f).columns vs count q) more.0, all_more (values-text f vs count q) more.1)
 
-module _ (f : File) (s : List ℕ) (e : refusal f s ≡ none) where
+module _ (f : File) (s : List ℕ) (e : refusal f s ≡ None) where
   pub regular-file : rfc4180 s ≡ true
   unfolding irregular
-  regular-file = none-cond (rfc4180 s) none (shape f s e).0
+  regular-file = none-cond (rfc4180 s) None (shape f s e).0
 
   -- the header, and then the rows
   headed : records s ≡ header f ∷ rows s

@@ -1,11 +1,11 @@
 -- A cell and its field are one another's: a permitted cell is what its field is read as, a field is what its cell is shown as, and
 -- no byte of it needs quotes. By columns, and by rows. Assumes nothing.
+use Rattle.std.specs.Prelude.{None, Option, Some, option_map, unwrap_or}
 use Prim.Native.Nat.{ℕ, ◌+◌, ◌-◌, ◌≤◌}
 use mathlib.Core.Path.{◌≡◌, refl, sym, ◌∙◌, ap, ap₂}
 use mathlib.Core.Logic.{◌⊎◌, inl, inr}
 use mathlib.Core.Bool.{Bool, true, false, cond, ◌&&◌, not}
 use mathlib.Core.List.{List, [], ◌∷◌, Memᴰ}
-use mathlib.Core.Option.{Option, none, some, map, get_or}
 use native.Mathlib.Omega.{arith}
 use lib.Dec.{eqb, ltb}
 use lib.ListN.{length}
@@ -21,7 +21,9 @@ use Rattle.csv_text.proofs.Steps.{textdata-true}
 use Rattle.numeral.specs.Grammar.{Digit}
 use Rattle.numeral.specs.Numeral.{number, within, digits}
 use Rattle.numeral.proofs.Laws.{number_digits, digits_number, digits-digit, within-some}
-use Rattle.tables.specs.Table.{Form, numeral, signed, letter, Column, table, header, constraint_columns, supply_columns, schedules_columns, curves_columns, parents_columns}
+use Rattle.tables.specs.Table.{Column, table, header, constraint_columns, supply_columns, schedules_columns, curves_columns, parents_columns}
+use Rattle.tables.specs.declared.columns.Form.{Form}
+use Rattle.tables.specs.declared.columns.Form.TheVariants.{Numeral as numeral, Signed as signed, Letter as letter}
 use Rattle.tables.specs.Values.{MINUS, excess, one_of, in_form, value, is_some, cells, well_formed}
 use Rattle.tables.specs.declared.files.File.{File}
 use Rattle.tables.specs.declared.files.File.TheVariants.{Constraint, Supply, Schedules, Curves, Parents}
@@ -32,55 +34,55 @@ use Rattle.tidy.specs.Tidy.{shown_as, shown, shown_row}
 
 -- What a shown cell is read as.
 
-numeral-value : (least most x : ℕ) → least ≤ x → x ≤ most → within least most (number (digits x)) ≡ some x
+numeral-value : (least most x : ℕ) → least ≤ x → x ≤ most → within least most (number (digits x)) ≡ Some x
 unfolding within
 numeral-value least most x l h = rw (number_digits x) (simp (le-leb least x l, le-leb x most h))
 
 -- no numeral begins with a minus
-plain-excess : (lo hi n : ℕ) → excess lo hi (digits n) ≡ map (λ (m : ℕ). lo + m) (within 0 hi (number (digits n)))
+plain-excess : (lo hi n : ℕ) → excess lo hi (digits n) ≡ option_map (λ (m : ℕ). lo + m) (within 0 hi (number (digits n)))
 unfolding excess number within
 plain-excess lo hi n = go (digits n) (λ b i. digits-digit n i)
   where
     go :
         (s : List ℕ) → ((b : ℕ) → Memᴰ b s → Digit b) →
-        excess lo hi s ≡ map (λ (m : ℕ). lo + m) (within 0 hi (number s))
+        excess lo hi s ≡ option_map (λ (m : ℕ). lo + m) (within 0 hi (number s))
     go [] d = refl
     go (b ∷ s) d = rw (ne_eqb b MINUS (λ e. omega (arith, (d b (Memᴰ.head refl)).least)))
 
-signed-value : (lo hi x : ℕ) → x ≤ lo + hi → excess lo hi (shown_as signed lo x) ≡ some x
+signed-value : (lo hi x : ℕ) → x ≤ lo + hi → excess lo hi (shown_as signed lo x) ≡ Some x
 unfolding shown_as excess
 signed-value lo hi x h = go (ltb x lo) refl
   where
-    go : (t : Bool) → ltb x lo ≡ t → excess lo hi (cond t (MINUS ∷ digits (lo - x)) (digits (x - lo))) ≡ some x
+    go : (t : Bool) → ltb x lo ≡ t → excess lo hi (cond t (MINUS ∷ digits (lo - x)) (digits (x - lo))) ≡ Some x
     go true e =
         let below = ltb-true x lo e in
-        rw (numeral-value 1 lo (lo - x) (omega arith) (omega arith)) (ap some (omega arith))
+        rw (numeral-value 1 lo (lo - x) (omega arith) (omega arith)) (ap Some (omega arith))
     go false e =
         let above = ltb-false x lo e in
-        plain-excess lo hi (x - lo) ∙ rw (numeral-value 0 hi (x - lo) (omega arith) (omega arith)) (ap some (omega arith))
+        plain-excess lo hi (x - lo) ∙ rw (numeral-value 0 hi (x - lo) (omega arith) (omega arith)) (ap Some (omega arith))
 
-letter-value : (a b x : ℕ) → (x ≡ a) ⊎ (x ≡ b) → one_of a b (x ∷ []) ≡ some x
+letter-value : (a b x : ℕ) → (x ≡ a) ⊎ (x ≡ b) → one_of a b (x ∷ []) ≡ Some x
 unfolding one_of
 letter-value a b x (inl e) = rw e (simp (same_refl (a ∷ [])))
 letter-value a b x (inr e) = rw e (go (same (b ∷ []) (a ∷ [])) refl)
   where
-    go : (t : Bool) → same (b ∷ []) (a ∷ []) ≡ t → cond t (some a) (cond (same (b ∷ []) (b ∷ [])) (some b) none) ≡ some b
+    go : (t : Bool) → same (b ∷ []) (a ∷ []) ≡ t → cond t (Some a) (cond (same (b ∷ []) (b ∷ [])) (Some b) None) ≡ Some b
     go true f = let alike = same-eq (b ∷ []) (a ∷ []) f in cc
     go false f = simp (same_refl (b ∷ []))
 
-form-value : (f : Form) (lo hi x : ℕ) → Permits f lo hi x → in_form f lo hi (shown_as f lo x) ≡ some x
+form-value : (f : Form) (lo hi x : ℕ) → Permits f lo hi x → in_form f lo hi (shown_as f lo x) ≡ Some x
 unfolding in_form shown_as
 form-value numeral lo hi x p = numeral-value lo hi x p.0 p.1
 form-value signed lo hi x p = signed-value lo hi x p
 form-value letter lo hi x p = letter-value lo hi x p
 
-pub shown-value : (c : Column) (x : ℕ) → Permits c.form c.minimum c.maximum x → value c (shown c x) ≡ some x
+pub shown-value : (c : Column) (x : ℕ) → Permits c.form c.minimum c.maximum x → value c (shown c x) ≡ Some x
 unfolding value shown
 shown-value c x p = form-value c.form c.minimum c.maximum x p
 
 -- What a read field is shown as.
 
-signed-shown : (lo hi x : ℕ) (v : List ℕ) → excess lo hi v ≡ some x → shown_as signed lo x ≡ v
+signed-shown : (lo hi x : ℕ) (v : List ℕ) → excess lo hi v ≡ Some x → shown_as signed lo x ≡ v
 unfolding shown_as excess
 signed-shown lo hi x [] e = let z : ◌≡◌ {A = ℕ} 0 1 = cc in absurd (omega arith)
 signed-shown lo hi x (b ∷ s) e =
@@ -89,39 +91,39 @@ signed-shown lo hi x (b ∷ s) e =
     go :
         (t : Bool) → eqb b MINUS ≡ t → (o : Option ℕ) → within 1 lo (number s) ≡ o →
         (p : Option ℕ) → within 0 hi (number (b ∷ s)) ≡ p →
-        cond t (map (λ (n : ℕ). lo - n) o) (map (λ (n : ℕ). lo + n) p) ≡ some x →
+        cond t (option_map (λ (n : ℕ). lo - n) o) (option_map (λ (n : ℕ). lo + n) p) ≡ Some x →
         cond (ltb x lo) (MINUS ∷ digits (lo - x)) (digits (x - lo)) ≡ b ∷ s
-    go true f none g p q e = let z : ◌≡◌ {A = ℕ} 0 1 = cc in absurd (omega arith)
-    go true f (some n) g p q e =
+    go true f None g p q e = let z : ◌≡◌ {A = ℕ} 0 1 = cc in absurd (omega arith)
+    go true f (Some n) g p q e =
         let (read, least, most) = within-some 1 lo n (number s) g in
         let cell : lo - n ≡ x = cc in
         let back : lo - x ≡ n = omega arith in
         rw (lt-ltb x lo (omega arith), back) (ap₂ ◌∷◌ (sym (eqb-true b MINUS f)) (sym (digits_number s n read)))
-    go false f o g none q e = let z : ◌≡◌ {A = ℕ} 0 1 = cc in absurd (omega arith)
-    go false f o g (some n) q e =
+    go false f o g None q e = let z : ◌≡◌ {A = ℕ} 0 1 = cc in absurd (omega arith)
+    go false f o g (Some n) q e =
         let (read, least, most) = within-some 0 hi n (number (b ∷ s)) q in
         let cell : lo + n ≡ x = cc in
         let back : x - lo ≡ n = omega arith in
         rw (le-ltb x lo (omega arith), back) (sym (digits_number (b ∷ s) n read))
 
-letter-shown : (a b x : ℕ) (v : List ℕ) → one_of a b v ≡ some x → x ∷ [] ≡ v
+letter-shown : (a b x : ℕ) (v : List ℕ) → one_of a b v ≡ Some x → x ∷ [] ≡ v
 unfolding one_of
 letter-shown a b x v e = go (same v (a ∷ [])) refl (same v (b ∷ [])) refl e
   where
     go :
         (t : Bool) → same v (a ∷ []) ≡ t → (u : Bool) → same v (b ∷ []) ≡ u →
-        cond t (some a) (cond u (some b) none) ≡ some x → x ∷ [] ≡ v
+        cond t (Some a) (cond u (Some b) None) ≡ Some x → x ∷ [] ≡ v
     go true f u g e = let alike = same-eq v (a ∷ []) f in cc
     go false f true g e = let alike = same-eq v (b ∷ []) g in cc
     go false f false g e = let z : ◌≡◌ {A = ℕ} 0 1 = cc in absurd (omega arith)
 
-form-shown : (f : Form) (lo hi x : ℕ) (v : List ℕ) → in_form f lo hi v ≡ some x → shown_as f lo x ≡ v
+form-shown : (f : Form) (lo hi x : ℕ) (v : List ℕ) → in_form f lo hi v ≡ Some x → shown_as f lo x ≡ v
 unfolding in_form shown_as
 form-shown numeral lo hi x v e = sym (digits_number v x (within-some lo hi x (number v) e).0)
 form-shown signed lo hi x v e = signed-shown lo hi x v e
 form-shown letter lo hi x v e = letter-shown lo hi x v e
 
-pub value-shown : (c : Column) (v : List ℕ) (x : ℕ) → value c v ≡ some x → shown c x ≡ v
+pub value-shown : (c : Column) (v : List ℕ) (x : ℕ) → value c v ≡ Some x → shown c x ≡ v
 unfolding value shown
 value-shown c v x e = form-shown c.form c.minimum c.maximum x v e
 
@@ -132,13 +134,13 @@ unfolding shown_row
 shown-cells no_cell = CellsOf.none
 shown-cells (one_Cell {c = c} {x = x} p ps) = CellsOf.more (shown-value c x p) (shown-cells ps)
 
-field-shown : (c : Column) (v : List ℕ) → is_some (value c v) ≡ true → shown c (get_or (value c v) 0) ≡ v
+field-shown : (c : Column) (v : List ℕ) → is_some (value c v) ≡ true → shown c (unwrap_or (value c v) 0) ≡ v
 unfolding is_some
 field-shown c v e = go (value c v) refl e
   where
-    go : (o : Option ℕ) → value c v ≡ o → is_some o ≡ true → shown c (get_or o 0) ≡ v
-    go none q e = false-true e
-    go (some x) q e = value-shown c v x q
+    go : (o : Option ℕ) → value c v ≡ o → is_some o ≡ true → shown c (unwrap_or o 0) ≡ v
+    go None q e = false-true e
+    go (Some x) q e = value-shown c v x q
 
 -- of a well-formed row of as many fields as columns
 pub cells-shown :
@@ -197,7 +199,7 @@ module _ (f : File) where
   unfolding first constraint_columns supply_columns schedules_columns curves_columns parents_columns
   plain-columns = first-none-all plain_letters 0 (table f).columns (found f)
     where
-      found : (f : File) → first (λ (c : Column). not (plain_letters c)) 0 (table f).columns ≡ none
+      found : (f : File) → first (λ (c : Column). not (plain_letters c)) 0 (table f).columns ≡ None
       found Constraint = refl
       found Supply = refl
       found Schedules = refl

@@ -1,10 +1,10 @@
 -- Document 02, F-1, of a file that 1 to 6 pass on its own: its tidy file is not refused either and has the same rows, two files have
 -- the same tidy file just where they have the same rows, and a tidy file is its own. Assumes nothing.
+use Rattle.std.specs.Prelude.{None}
 use Prim.Native.Nat.{ℕ}
 use mathlib.Core.Path.{◌≡◌, refl, sym, ◌∙◌, ap}
 use mathlib.Core.Logic.{◌↔◌}
 use mathlib.Core.List.{List}
-use mathlib.Core.Option.{none}
 use Rattle.base.specs.Search.{first_of}
 use Rattle.base.specs.Text.{together}
 use Rattle.base.proofs.FirstLaws.{first-of-one, first-of-later}
@@ -18,11 +18,11 @@ use Rattle.tidy.specs.Tidy.{tidy_text, tidy_of}
 use Rattle.tidy.proofs.TidyRows.{alone-allowed, header-rows, not-refused, same_rows}
 
 -- "Reading its output yields the same rows"
-pub tidy-rows : (f : File) (s : List ℕ) → first_of (alone_refusals f s) ≡ none → rows_as_cells f (tidy_of f s) ≡ rows_as_cells f s
+pub tidy-rows : (f : File) (s : List ℕ) → first_of (alone_refusals f s) ≡ None → rows_as_cells f (tidy_of f s) ≡ rows_as_cells f s
 unfolding tidy_of
 tidy-rows f s e = same_rows f (alone-allowed f s e)
 
-tidy-read : (f : File) (s : List ℕ) → first_of (alone_refusals f s) ≡ none → refusal f (tidy_of f s) ≡ none
+tidy-read : (f : File) (s : List ℕ) → first_of (alone_refusals f s) ≡ None → refusal f (tidy_of f s) ≡ None
 unfolding tidy_of
 tidy-read f s e = not-refused f (alone-allowed f s e)
 
@@ -35,7 +35,7 @@ some_bytes Schedules s = refl
 some_bytes Curves s = refl
 some_bytes Parents s = refl
 
-pub tidy-accepted : (f : File) (s : List ℕ) → first_of (alone_refusals f s) ≡ none → first_of (alone_refusals f (tidy_of f s)) ≡ none
+pub tidy-accepted : (f : File) (s : List ℕ) → first_of (alone_refusals f s) ≡ None → first_of (alone_refusals f (tidy_of f s)) ≡ None
 unfolding alone_refusals supply_of schedules_of parents_of
 tidy-accepted Constraint s e = first-of-one (refusal Constraint (tidy_of Constraint s)) ∙ tidy-read Constraint s e
 tidy-accepted Supply s e =
@@ -53,12 +53,12 @@ tidy-accepted Parents s e =
 
 -- "two such files of one kind have the same tidy bytes exactly when their rows agree"
 pub tidy-same :
-    (f : File) (s t : List ℕ) → first_of (alone_refusals f s) ≡ none → first_of (alone_refusals f t) ≡ none →
+    (f : File) (s t : List ℕ) → first_of (alone_refusals f s) ≡ None → first_of (alone_refusals f t) ≡ None →
     (tidy_of f s ≡ tidy_of f t) ↔ (rows_as_cells f s ≡ rows_as_cells f t)
 unfolding tidy_of
 tidy-same f s t d e =
     (λ same. sym (tidy-rows f s d) ∙ ap (rows_as_cells f) same ∙ tidy-rows f t e, λ same. ap (tidy_text f) same)
 
-pub tidy-again : (f : File) (s : List ℕ) → first_of (alone_refusals f s) ≡ none → tidy_of f (tidy_of f s) ≡ tidy_of f s
+pub tidy-again : (f : File) (s : List ℕ) → first_of (alone_refusals f s) ≡ None → tidy_of f (tidy_of f s) ≡ tidy_of f s
 unfolding tidy_of
 tidy-again f s e = ap (tidy_text f) (tidy-rows f s e)

@@ -1,9 +1,9 @@
 -- The rows of a file that is not refused are such that the tidy file of them is not refused either, and has just those rows.
 -- Assumes nothing.
+use Rattle.std.specs.Prelude.{None}
 use Prim.Native.Nat.{ℕ, ◌≤◌, ◌<◌}
 use mathlib.Core.Path.{◌≡◌, refl, ap₂}
 use mathlib.Core.List.{List, [], ◌∷◌, map}
-use mathlib.Core.Option.{none}
 use native.Mathlib.Omega.{arith}
 use lib.ListN.{length, length-map}
 use Rattle.base.specs.Search.{first_of, All, all_none, all_more}
@@ -32,7 +32,7 @@ pub record Allowed (f : File) (rows : List (List ℕ)) : Type 0 where
   pub most : length rows ≤ (table f).most_rows
   pub permitted : All (PermittedCells (table f).columns) rows
 
-pub read-allowed : (f : File) (s : List ℕ) → refusal f s ≡ none → Allowed f (rows_as_cells f s)
+pub read-allowed : (f : File) (s : List ℕ) → refusal f s ≡ None → Allowed f (rows_as_cells f s)
 unfolding rows_as_cells
 read-allowed f s e =
     let a = accepted f s e in
@@ -52,10 +52,10 @@ header-rows Curves [] = refl
 header-rows Parents [] = refl
 header-rows f (b ∷ s) = refl
 
-with-header : (f : File) (s : List ℕ) → refusal f (or_header f s) ≡ none → Allowed f (rows_as_cells f s)
+with-header : (f : File) (s : List ℕ) → refusal f (or_header f s) ≡ None → Allowed f (rows_as_cells f s)
 with-header f s e = rw (header-rows f s) at (read-allowed f (or_header f s) e)
 
-pub alone-allowed : (f : File) (s : List ℕ) → first_of (alone_refusals f s) ≡ none → Allowed f (rows_as_cells f s)
+pub alone-allowed : (f : File) (s : List ℕ) → first_of (alone_refusals f s) ≡ None → Allowed f (rows_as_cells f s)
 unfolding alone_refusals
 alone-allowed Constraint s e = read-allowed Constraint s (first-of-none (refusal Constraint s) _ e).0
 alone-allowed Supply s e = read-allowed Supply s (first-of-none (refusal Supply s) _ e).0
@@ -106,7 +106,7 @@ module _ (f : File) {rows : List (List ℕ)} (a : Allowed f rows) where
   most : length (map (shown_row (table f).columns) rows) ≤ (table f).most_rows
   most = rw length-map a.most
 
-  pub not-refused : refusal f (tidy_text f rows) ≡ none
+  pub not-refused : refusal f (tidy_text f rows) ≡ None
   not-refused = Written.not-refused f records-written (shown-rows a.permitted) fewest most
 
   pub same_rows : rows_as_cells f (tidy_text f rows) ≡ rows

@@ -1,7 +1,9 @@
 -- The longest tidy file of each kind: as many rows as the table permits, each field as wide as its column's range permits. Assumes
 -- nothing; `proofs/LongestLaws` shows that no tidy file is longer.
 use Rattle.std.specs.Prelude.{ℕ, map, length, replicate}
-use Rattle.tables.specs.Table.{Form, numeral, signed, letter, Column, table}
+use Rattle.tables.specs.Table.{Column, table}
+use Rattle.tables.specs.declared.columns.Form.{Form}
+use Rattle.tables.specs.declared.columns.Form.TheVariants.{Numeral as numeral, Signed as signed, Letter as letter}
 use Rattle.tables.specs.declared.files.File.{File}
 use Rattle.tidy.specs.Tidy.{tidy_text}
 

@@ -1,12 +1,13 @@
 -- Document 02, F-1: "Add a writer for one file that 1 to 6 pass on its own: unquoted, CR LF after each record, header, then rows in
 -- their order." Here the tidy file of some rows, and the whole outcome of a call, for any bytes and any lent buffer. Assumes
 -- nothing; `proofs/TidyLaws` has what the request says of tidy files.
-use Rattle.std.specs.Prelude.{ℕ, ◌-◌, cond, List, [], ◌∷◌, ◌++◌, map, leb, ltb, length}
-use Rattle.std.proofs.Math.Option.{Option, none, some}
+use Rattle.std.specs.Prelude.{ℕ, ◌-◌, cond, List, [], ◌∷◌, ◌++◌, map, leb, ltb, length, None, Option, Some}
 use Rattle.base.specs.Search.{first_of}
 use Rattle.base.specs.Text.{together, written}
 use Rattle.numeral.specs.Numeral.{digits}
-use Rattle.tables.specs.Table.{Form, numeral, signed, letter, Column, table, header, record_text}
+use Rattle.tables.specs.Table.{Column, table, header, record_text}
+use Rattle.tables.specs.declared.columns.Form.{Form}
+use Rattle.tables.specs.declared.columns.Form.TheVariants.{Numeral as numeral, Signed as signed, Letter as letter}
 use Rattle.tables.specs.Values.{MINUS}
 use Rattle.tables.specs.Refusals.{unless, bare_refusal}
 use Rattle.tables.specs.declared.files.File.{File}
@@ -51,8 +52,8 @@ pub record Tidying : Type 0 where
 
 -- "a refused call leaves its lent buffer .. as they were"
 unfoldable pub tidying : List ℕ → List ℕ → Option Refusal → Tidying
-tidying text buffer none = record { told = bare_refusal 0; count = length text; buffer = written text buffer }
-tidying text buffer (some r) = record { told = r; count = 0; buffer = buffer }
+tidying text buffer None = record { told = bare_refusal 0; count = length text; buffer = written text buffer }
+tidying text buffer (Some r) = record { told = r; count = 0; buffer = buffer }
 
 unfoldable pub tidied : File → List ℕ → List ℕ → Tidying
 tidied f s buffer = tidying (tidy_of f s) buffer (first_of (tidy_refusals f s (length buffer)))

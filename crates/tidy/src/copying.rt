@@ -16,13 +16,6 @@ const DQUOTE: u8 = 0x22;
 // The buffer is shorter than the tidy file.
 const SHORT_FOR_TIDY: u64 = 30;
 
-// What a call gives: how many bytes it wrote, or why it is refused.
-#[derive(Clone, Copy)]
-pub enum Tidy {
-    Written(usize),
-    Refused(Refusal),
-}
-
 // A line that was written: how many bytes of the text it takes, and how many of the buffer.
 #[derive(Clone, Copy)]
 struct Line {
@@ -30,18 +23,15 @@ struct Line {
     written: usize,
 }
 
-// Copies `s` without its quotes, with a CR LF behind the last line too, unless the buffer is too short.
-pub fn copy_file(s: &[u8], out: &mut [u8]) -> Tidy
+// Copies `s` without its quotes, with a CR LF behind the last line too, unless the buffer is too short, and
+// answers how many bytes it wrote.
+pub fn copy_file(s: &[u8], out: &mut [u8]) -> Result<usize, Refusal>
     ensures { Copies s.now out.old out.new result }
 {
     if !fits(s, out.len()) {
-        return Tidy::Refused(Refusal {
-            number: SHORT_FOR_TIDY,
-            file: 0,
-            place: 0,
-        });
+        return Err(Refusal::bare(SHORT_FOR_TIDY));
     }
-    Tidy::Written(write_file(s, out))
+    Ok(write_file(s, out))
 }
 
 // Whether the copy of `s` has room in so many bytes. Quotes are counted only where they decide that.
@@ -59,10 +49,8 @@ fn unquoted_length(s: &[u8]) -> usize
     ensures { result ≡ length (unquoted s.now) }
 {
     let mut count = 0;
-    let mut i = 0;
-    while i < s.len() {
-        count += (s[i] != DQUOTE) as usize;
-        i += 1;
+    for &b in s {
+        count += (b != DQUOTE) as usize;
     }
     count
 }
@@ -97,23 +85,20 @@ fn write_line(s: &[u8], out: &mut [u8]) -> Line
     ensures { LineWritten s.now out.old out.new result.read result.written }
 {
     let mut at = 0;
-    let mut i = 0;
-    while i < s.len() {
-        let b = s[i];
+    for (i, &b) in s.iter().enumerate() {
         if b != DQUOTE {
             out[at] = b;
             at += 1;
         }
-        i += 1;
         if b == LF {
             return Line {
-                read: i,
+                read: i + 1,
                 written: at,
             };
         }
     }
     Line {
-        read: i,
+        read: s.len(),
         written: at,
     }
 }
@@ -142,8 +127,5 @@ fn write_last_end(s: &[u8], out: &mut [u8]) -> usize
 fn ends_in_line_end(s: &[u8]) -> bool
     ensures { result ≡ eqb (get_or s.now (length s.now - 1) 0) 0x0A }
 {
-    if s.len() == 0 {
-        return false;
-    }
-    s[s.len() - 1] == LF
+    s.last() == Some(&LF)
 }

@@ -7,7 +7,6 @@ mod copying;
 mod files;
 mod longest;
 
-pub use copying::Tidy;
 pub use files::{tidy_constraint, tidy_schedules, tidy_supply};
 pub use longest::{
     LONGEST_CONSTRAINT, LONGEST_SCHEDULES, LONGEST_SUPPLY, longest_constraint, longest_schedules,

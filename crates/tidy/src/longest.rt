@@ -9,7 +9,8 @@ pub const LONGEST_SUPPLY: usize = 7964;
 
 pub const LONGEST_SCHEDULES: usize = 52284;
 
-// The same, by the definition.
+// The same, by the definition. Three functions: that each constant is the definition's is a computation of its
+// own, and one over files would have two for files that are never tidied.
 pub fn longest_constraint() -> usize
     ensures { result ≡ longest_tidy Constraint }
 {

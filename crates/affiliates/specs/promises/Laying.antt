@@ -1,9 +1,7 @@
 -- Parents as the code has them: rows in cells, and a run with a place for each number that a supplier may have, where its
 -- parent stands, 0 for none. Assumes nothing.
-use Rattle.std.specs.Prelude.{ℕ, ◌*◌, ◌≤◌, ◌<◌, ◌≡◌, cond, eqb, length, get_or}
+use Rattle.std.specs.Prelude.{ℕ, ◌*◌, ◌≤◌, ◌<◌, ◌≡◌, cond, eqb, length, get_or, None, Option, Some}
 use mathlib.Core.List.{List, map, Memᴰ as Among}
-use Rattle.std.proofs.Math.Option
-use Rattle.std.proofs.Math.Option.{Option, none, some}
 use Rattle.tables.specs.promises.Ranges.{PermittedParent}
 use Rattle.tables.specs.Rows.{SupplyRow, ParentRow}
 use Rattle.tables.specs.Table.{highest_supplier, table}
@@ -25,7 +23,7 @@ pub record SupplierCells (n : ℕ) (cells : List ℕ) : Type 0 where
 
 -- the parent that stands at a supplier's place
 unfoldable pub parent_in : List ℕ → ℕ → Option ℕ
-parent_in run s = cond (eqb (get_or run s 0) 0) none (some (get_or run s 0))
+parent_in run s = cond (eqb (get_or run s 0) 0) None (Some (get_or run s 0))
 
 -- a run of such places
 pub record ParentRun (run : List ℕ) : Type 0 where
@@ -41,10 +39,10 @@ pub record ParentsIn (ps : List ParentRow) (run : List ℕ) : Type 0 where
   pub a-run : ParentRun run
   pub held : (s : ℕ) → parent_in run s ≡ parent_of ps s
 
--- the first record that gives a supplier a second parent, 0 for none; and where there is none, the run of all parents
-pub record ParentsLaid (ps : List ParentRow) (run : List ℕ) (r : ℕ) : Type 0 where
-  pub place : r ≡ Option.get_or (given_twice ps) 0
-  pub all-parents : given_twice ps ≡ none → ParentsIn ps run
+-- the first record that gives a supplier a second parent; and where there is none, the run of all parents
+pub record ParentsLaid (ps : List ParentRow) (run : List ℕ) (r : Option ℕ) : Type 0 where
+  pub place : r ≡ given_twice ps
+  pub all-parents : given_twice ps ≡ None → ParentsIn ps run
 
 -- the heads found so far stand at their suppliers' places
 pub record HeadsIn (parents : List ℕ) (rows : ℕ) (heads : List ℕ) : Type 0 where

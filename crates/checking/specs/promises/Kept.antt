@@ -1,7 +1,6 @@
 -- What holds of files that the check accepts: their rows within the ranges and as many as permitted, and every rule
 -- between rows kept. Assumes nothing.
-use Rattle.std.specs.Prelude.{◌≤◌, ◌≡◌, length}
-use Rattle.std.proofs.Math.Option.{none}
+use Rattle.std.specs.Prelude.{◌≤◌, ◌≡◌, length, None}
 use Rattle.base.specs.Search.{All}
 use Rattle.tables.specs.promises.Ranges.{PermittedConstraint, PermittedSupply, PermittedSchedule, PermittedPoint, PermittedParent}
 use Rattle.tables.specs.Reading.{refusal}
@@ -16,11 +15,11 @@ use Rattle.supply.specs.Supply.{most_units, most_suppliers, units, suppliers, ov
 
 pub record Kept (f : Files) : Type 0 where
   -- 1, 2, 4 and 3
-  pub constraint-read : refusal Constraint f.constraint ≡ none
-  pub supply-read : refusal Supply f.supply ≡ none
-  pub schedules-read : refusal Schedules f.schedules ≡ none
-  pub curves-read : refusal Curves (or_header Curves f.curves) ≡ none
-  pub parents-read : refusal Parents (or_header Parents f.parents) ≡ none
+  pub constraint-read : refusal Constraint f.constraint ≡ None
+  pub supply-read : refusal Supply f.supply ≡ None
+  pub schedules-read : refusal Schedules f.schedules ≡ None
+  pub curves-read : refusal Curves (or_header Curves f.curves) ≡ None
+  pub parents-read : refusal Parents (or_header Parents f.parents) ≡ None
   pub constraint-permitted : PermittedConstraint (constraint_of f.constraint)
   pub supply-permitted : All PermittedSupply (supply_of f.supply)
   pub schedules-permitted : All PermittedSchedule (schedules_of f.schedules)
@@ -29,22 +28,22 @@ pub record Kept (f : Files) : Type 0 where
   pub supply-few : length (supply_of f.supply) ≤ (table Supply).most_rows
   pub schedules-few : length (schedules_of f.schedules) ≤ (table Schedules).most_rows
   -- 5
-  pub within-limits : over_limit (supply_of f.supply) ≡ none
+  pub within-limits : over_limit (supply_of f.supply) ≡ None
   pub units-few : length (units (supply_of f.supply)) ≤ most_units
   pub suppliers-few : length (suppliers (supply_of f.supply)) ≤ most_suppliers
   -- 6
-  pub supply-agrees : supply_at_odds (supply_of f.supply) ≡ none
-  pub schedules-agree : schedules_at_odds (schedules_of f.schedules) ≡ none
+  pub supply-agrees : supply_at_odds (supply_of f.supply) ≡ None
+  pub schedules-agree : schedules_at_odds (schedules_of f.schedules) ≡ None
   -- 7
-  pub known : not_in_supply (units (supply_of f.supply)) (schedules_of f.schedules) ≡ none
+  pub known : not_in_supply (units (supply_of f.supply)) (schedules_of f.schedules) ≡ None
   -- 32, 33, 34
-  pub points-placed : stray_point (schedules_of f.schedules) (curves_of f.curves) ≡ none
-  pub points-ordered : disordered (curves_of f.curves) ≡ none
-  pub curves-reach : ends_low (schedules_of f.schedules) (curves_of f.curves) ≡ none
+  pub points-placed : stray_point (schedules_of f.schedules) (curves_of f.curves) ≡ None
+  pub points-ordered : disordered (curves_of f.curves) ≡ None
+  pub curves-reach : ends_low (schedules_of f.schedules) (curves_of f.curves) ≡ None
   -- 35, 36
-  pub given-once : given_twice (parents_of f.parents) ≡ none
-  pub unringed : ringed (parents_of f.parents) ≡ none
+  pub given-once : given_twice (parents_of f.parents) ≡ None
+  pub unringed : ringed (parents_of f.parents) ≡ None
   -- 8
-  pub scheduled : unscheduled (units (supply_of f.supply)) (schedules_of f.schedules) ≡ none
+  pub scheduled : unscheduled (units (supply_of f.supply)) (schedules_of f.schedules) ≡ None
   -- 9
-  pub whole : lacking (constraint_of f.constraint).hour (units (supply_of f.supply)) (schedules_of f.schedules) ≡ none
+  pub whole : lacking (constraint_of f.constraint).hour (units (supply_of f.supply)) (schedules_of f.schedules) ≡ None

@@ -1,13 +1,12 @@
 -- What the scan answers: whether a file is RFC 4180, how many records it has, and how many of these have the fields that
 -- are asked before the first that has not. And the tally that it keeps, byte by byte, to find that out; that the two are
 -- the same is shown in `proofs/Scanned`. Assumes nothing.
-use Rattle.std.specs.Prelude.{ℕ, ◌+◌, ◌≤◌, ◌^◌, max, Bool, true, false, cond, ◌&&◌, List, [], ◌∷◌, map, eqb, length}
+use Rattle.std.specs.Prelude.{ℕ, ◌+◌, ◌≤◌, ◌^◌, max, Bool, true, false, cond, ◌&&◌, List, [], ◌∷◌, map, eqb, length, Option, Some, None}
 use Rattle.base.specs.promises.Counting.{one, leading}
 use Rattle.csv_text.specs.Records.{State, begin, plain, quoted, closing, ended, broken, next, final, rfc4180, records}
-use Rattle.csv_text.specs.declared.scanning.Shape.{Shape}
-use Rattle.csv_text.specs.declared.scanning.Shape.TheVariants.{Regular, Irregular}
 use Rattle.csv_text.specs.declared.scanning.Place.{Place}
 use Rattle.csv_text.specs.declared.scanning.Place.TheVariants.{Begin, Plain, Quoted, Closing, Ended, Broken}
+use Rattle.csv_text.specs.declared.scanning.Regular.{Regular}
 use Rattle.csv_text.specs.declared.scanning.Tally.{Tally as Kept}
 use Rattle.csv_text.specs.Bytes.{COMMA}
 
@@ -15,8 +14,12 @@ use Rattle.csv_text.specs.Bytes.{COMMA}
 unfoldable pub fitting : ℕ → List (List (List ℕ)) → ℕ
 fitting width rs = leading (eqb width) (map length rs)
 
-unfoldable pub scanned : ℕ → List ℕ → Shape
-scanned width s = cond (rfc4180 s) (Regular (length (records s)) (fitting width (records s))) Irregular
+-- what is found of a regular file
+abbrev pub found_regular : ℕ → ℕ → Option Regular
+found_regular count fit = Some (record { records = count; fitting = fit })
+
+unfoldable pub scanned : ℕ → List ℕ → Option Regular
+scanned width s = cond (rfc4180 s) (found_regular (length (records s)) (fitting width (records s))) None
 
 pub record Tally : Type 0 where
   pub state : State
@@ -80,8 +83,8 @@ tally width t (b ∷ s) = tally width (step width t b) s
 unfoldable pub finished : ℕ → Tally → Tally
 finished width t = cond (eqb t.fields 0) t (over width t.state t)
 
-unfoldable pub scan_answer : Tally → Shape
-scan_answer t = cond (final t.state) (Regular t.records t.fitting) Irregular
+unfoldable pub scan_answer : Tally → Option Regular
+scan_answer t = cond (final t.state) (found_regular t.records t.fitting) None
 
 -- the code's names for states and its tally
 abbrev pub state : Place → State

@@ -1,8 +1,6 @@
 -- Points of curves as the code has them: in cells, with one more than the place of its schedule row for each in a run, and for each
 -- row the last record of its curve in another. Assumes nothing.
-use Rattle.std.specs.Prelude.{ℕ, ◌-◌, ◌*◌, ◌≤◌, ◌<◌, ◌≡◌, Bool, true, false, not, ◌&&◌, ◌||◌, List, eqb, leb, ltb, length, get_or}
-use Rattle.std.proofs.Math.Option
-use Rattle.std.proofs.Math.Option.{none}
+use Rattle.std.specs.Prelude.{ℕ, ◌-◌, ◌*◌, ◌≤◌, ◌<◌, ◌≡◌, Bool, true, false, not, ◌&&◌, ◌||◌, List, eqb, leb, ltb, length, get_or, None, Option, MatchOption}
 use Rattle.base.specs.Search.{any}
 use Rattle.tables.specs.Rows.{ScheduleRow}
 use Rattle.tables.specs.Table.{table}
@@ -22,13 +20,14 @@ pub record PointCells (m : ℕ) (points : List ℕ) : Type 0 where
 pub record RowCells (n : ℕ) (cells : List ℕ) : Type 0 where
   pub few : n ≤ most_linked
   pub inside : n * schedule_width ≤ length cells
-  pub agree : schedules_at_odds (schedule_rows n cells) ≡ none
+  pub agree : schedules_at_odds (schedule_rows n cells) ≡ None
 
--- a row of point i, as one more than its place; 0 where there is none
-pub record RowFound (points : List ℕ) (i n : ℕ) (cells : List ℕ) (r : ℕ) : Type 0 where
-  pub upto : r ≤ n
-  pub there : 0 < r → point_of (schedule_at cells (r - 1)) (point_at points i) ≡ true
-  pub absent : r ≡ 0 → any (λ (row : ScheduleRow). point_of row (point_at points i)) (schedule_rows n cells) ≡ false
+-- the place of a row of point i, if there is one
+abbrev pub RowFound : List ℕ → ℕ → ℕ → List ℕ → Option ℕ → Type 0
+RowFound points i n cells r =
+    MatchOption r
+    (any (λ (row : ScheduleRow). point_of row (point_at points i)) (schedule_rows n cells) ≡ false)
+    (λ (k : ℕ). (k < n) × (point_of (schedule_at cells k) (point_at points i) ≡ true))
 
 -- the row of each point stands in a run
 pub record Placed (m : ℕ) (points : List ℕ) (n : ℕ) (cells places : List ℕ) : Type 0 where
@@ -37,10 +36,10 @@ pub record Placed (m : ℕ) (points : List ℕ) (n : ℕ) (cells places : List �
   pub upto : (i : ℕ) → i < m → get_or places i 0 ≤ n
   pub its-row : (i : ℕ) → i < m → point_of (schedule_at cells (get_or places i 0 - 1)) (point_at points i) ≡ true
 
--- the first point without a row, 0 for none; and where there is none, the row of each
-pub record PointsPlaced (m : ℕ) (points : List ℕ) (n : ℕ) (cells places : List ℕ) (r : ℕ) : Type 0 where
-  pub stray : r ≡ Option.get_or (stray_point (schedule_rows n cells) (point_rows m points)) 0
-  pub all_placed : stray_point (schedule_rows n cells) (point_rows m points) ≡ none → Placed m points n cells places
+-- the first point without a row; and where there is none, the row of each
+pub record PointsPlaced (m : ℕ) (points : List ℕ) (n : ℕ) (cells places : List ℕ) (r : Option ℕ) : Type 0 where
+  pub stray : r ≡ stray_point (schedule_rows n cells) (point_rows m points)
+  pub all_placed : stray_point (schedule_rows n cells) (point_rows m points) ≡ None → Placed m points n cells places
 
 -- points of one curve, and no others, have one place
 pub record CurvePlaces (m : ℕ) (points places : List ℕ) : Type 0 where
@@ -65,7 +64,7 @@ breaks_behind points i last count =
     && (not (ltb (point_at points (last - 1)).mw (point_at points i).mw && ltb (point_at points (last - 1)).price (point_at points i).price)
     || leb most_points count)
 
--- the first point out of order, 0 for none; and where there is none, the last record of each curve
-pub record OrderFound (m : ℕ) (points places lasts : List ℕ) (r : ℕ) : Type 0 where
-  pub fault : r ≡ Option.get_or (disordered (point_rows m points)) 0
-  pub all-lasts : disordered (point_rows m points) ≡ none → LastsIn places lasts m
+-- the first point out of order; and where there is none, the last record of each curve
+pub record OrderFound (m : ℕ) (points places lasts : List ℕ) (r : Option ℕ) : Type 0 where
+  pub fault : r ≡ disordered (point_rows m points)
+  pub all-lasts : disordered (point_rows m points) ≡ None → LastsIn places lasts m

@@ -1,7 +1,6 @@
 -- A schedule chosen for each unit that has been tested, and the rows of the answer, as the code lays them down. Assumes
 -- nothing.
-use Rattle.std.specs.Prelude.{ℕ, ◌≡◌, Bool, true, ◌&&◌, not, List, [], ◌∷◌, ◌++◌, map, length, drop}
-use Rattle.std.proofs.Math.Option.{Option, none, some}
+use Rattle.std.specs.Prelude.{ℕ, ◌≡◌, Bool, true, ◌&&◌, not, List, [], ◌∷◌, ◌++◌, map, length, drop, Option, Some, None, Result, Ok, Err}
 use Rattle.base.specs.Search.{find}
 use Rattle.tables.specs.Rows.{ScheduleRow, letter_of}
 use Rattle.tables.specs.declared.answer.AnswerRow.{AnswerRow}
@@ -14,8 +13,7 @@ use Rattle.choice.specs.declared.kinds.Kinds.TheVariants.{OnlyC}
 use Rattle.cells.specs.promises.Views.{answer_width, answer_rows}
 use Rattle.outcome.specs.Day.{RunningUnit, kind_running}
 use Rattle.outcome.specs.Decision.{chosen_or, lacks_cost}
-use Rattle.decision.specs.declared.deciding.Decided.{Decided}
-use Rattle.decision.specs.declared.deciding.Decided.TheVariants.{All, NoCostSchedule}
+use Rattle.decision.specs.declared.deciding.NoCostSchedule.{NoCostSchedule}
 use Rattle.decision.specs.declared.testing.UnitTest.{UnitTest}
 
 -- 21, of a unit with these rows on a day that has it running on a kind, or not
@@ -46,9 +44,9 @@ pub record RowChosen (h : ℕ) (rows : List ScheduleRow) (day : Option Kind) (t 
   pub same_length : length new ≡ length old
 
 -- every unit is decided, or 21 names one
-abbrev pub answer_of : Option ℕ → Decided
-answer_of none = All
-answer_of (some u) = NoCostSchedule u
+abbrev pub answer_of : Option ℕ → Result (Unit {0}) NoCostSchedule
+answer_of None = Ok tt
+answer_of (Some u) = Err (record { unit = u })
 
 abbrev pub tested_units : List UnitTest → List ℕ
 tested_units ts = map (λ (t : UnitTest). t.unit) ts
@@ -59,6 +57,6 @@ module _ (h : ℕ) (scheduled : List ScheduleRow) (running : List RunningUnit) w
   row_chosen t = row_from t (chosen_or (choice (kind_running t.unit running) t.exposed h (own t.unit scheduled)))
 
   -- all rows chosen, of units with these tests
-  pub record ChoosesRows (ts : List UnitTest) (k : ℕ) (new : List ℕ) (r : Decided) : Type 0 where
+  pub record ChoosesRows (ts : List UnitTest) (k : ℕ) (new : List ℕ) (r : Result (Unit {0}) NoCostSchedule) : Type 0 where
     pub answers : r ≡ answer_of (find (lacks_cost h scheduled running) (tested_units ts))
-    pub rows : r ≡ All → answer_rows k new ≡ map row_chosen ts
+    pub rows : r ≡ Ok tt → answer_rows k new ≡ map row_chosen ts

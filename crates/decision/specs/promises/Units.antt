@@ -6,12 +6,8 @@ use Rattle.tables.specs.Rows.{SupplyRow}
 use Rattle.tables.specs.promises.FlatRows.{supply_rows}
 use Rattle.cells.specs.promises.Views.{supply_at}
 use Rattle.supply.specs.Supply.{most_units, units}
-use Rattle.offers.specs.promises.Ranges.{SupplyRowAt}
-use Rattle.offers.specs.Relevant.{relevant}
-use Rattle.offers.specs.Supply.{eligible}
+use Rattle.market.specs.promises.Parts.{Tests}
 use Rattle.outcome.specs.Decision.{of_unit, unit_row}
-use Rattle.decision.specs.declared.units.Wanted.{Wanted}
-use Rattle.decision.specs.declared.units.Wanted.TheVariants.{Eligible, Relevant}
 
 -- a run that begins with the k units of supply
 pub record UnitsOf (k : ℕ) (supply : List SupplyRow) (run : List ℕ) : Type 0 where
@@ -31,12 +27,6 @@ pub record UnitFound (u n : ℕ) (cells : List ℕ) (r : ℕ) : Type 0 where
   pub found : supply_at cells r ≡ unit_row (supply_rows n cells) u
   pub none_before : (p : SupplyRow → Bool) → any_of u p (supply_rows n cells) ≡ any_of u p (drop r (supply_rows n cells))
 
--- whether a row is wanted
-unfoldable pub wanted_row : List ℕ → ℕ → Wanted → SupplyRow → Bool
-wanted_row cells cutoff Eligible = eligible cutoff
-wanted_row cells cutoff (Relevant q) = relevant cutoff (supply_at cells q)
-
--- the row that clears stands in the cells
-abbrev pub WantedCells : List ℕ → Wanted → Type 0
-WantedCells cells Eligible = Unit {0}
-WantedCells cells (Relevant q) = SupplyRowAt cells q
+-- Whether some row is the unit's and passes, whatever test of rows it is.
+abbrev pub HasWanted : (ℕ → Bool → Type 0) → ℕ → ℕ → List ℕ → Bool → Type 0
+HasWanted answers u n cells r = (p : SupplyRow → Bool) → Tests answers n cells p → r ≡ any_of u p (supply_rows n cells)

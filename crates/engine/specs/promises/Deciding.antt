@@ -1,7 +1,6 @@
 -- What deciding a study promises: every refusal but 10, or the rows of the answer, which stand at the start of a lent run.
 -- Nothing is written to a file, and no day changes. Assumes nothing.
-use Rattle.std.specs.Prelude.{ℕ, ◌*◌, ◌≤◌, ◌≡◌, List, [], ◌∷◌, ◌++◌, map, length, take}
-use Rattle.std.proofs.Math.Option.{Option, none, some}
+use Rattle.std.specs.Prelude.{ℕ, ◌*◌, ◌≤◌, ◌≡◌, List, [], ◌∷◌, ◌++◌, map, length, take, Option, None, Some, Result, Ok, Err}
 use Rattle.base.specs.Rising.{RisingFrom}
 use Rattle.base.specs.Search.{All, first_of}
 use Rattle.tables.specs.Rows.{SupplyRow, ScheduleRow}
@@ -21,8 +20,7 @@ use Rattle.outcome.specs.Decision.{decided}
 use Rattle.outcome.specs.Study.{rows_refusals, study_rows, decision_refusal}
 use Rattle.engine.specs.View.{view_of}
 use Rattle.engine.specs.declared.day.Day.{Day}
-use Rattle.engine.specs.declared.deciding.Deciding.{Deciding}
-use Rattle.engine.specs.declared.deciding.Deciding.TheVariants.{Rows, Refused}
+use Rattle.engine.specs.declared.deciding.DecidedRows.{DecidedRows}
 
 -- k rows that can be written, and whose units can be put among those that run
 pub record RowsReady (running : List RunningUnit) (k : ℕ) (cells : List ℕ) : Type 0 where
@@ -35,25 +33,25 @@ pub record RowsReady (running : List RunningUnit) (k : ℕ) (cells : List ℕ) :
 -- what was found where the first refusal is o, and else these are the rows for this hour
 module _ (o : Option Refusal) (hour : ℕ) (rows : List AnswerRow) (running : List RunningUnit) (new : List ℕ) where
   pub record Laid (h k : ℕ) : Type 0 where
-    pub accepted : o ≡ none
+    pub accepted : o ≡ None
     pub at-hour : h ≡ hour
     pub laid : answer_rows k new ≡ rows
     pub ready : RowsReady running k new
 
-  pub record Decides (r : Deciding) : Type 0 where
-    pub refuses : (e : Refusal) → r ≡ Refused e → o ≡ some e
-    pub decides : (h k : ℕ) → r ≡ Rows h k → Laid h k
+  pub record Decides (r : Result DecidedRows Refusal) : Type 0 where
+    pub refuses : (e : Refusal) → r ≡ Err e → o ≡ Some e
+    pub decides : (found : DecidedRows) → r ≡ Ok found → Laid found.hour found.count
 
 -- deciding the rows of a study's files, deciding schedules and curves for a market that passed while another refusal waits for its turn,
 -- deciding them by the groups of parents, and deciding all files
-abbrev pub DecidesFromRows : Day → ConstraintRow → List SupplyRow → List ScheduleRow → List ℕ → Deciding → Type 0
+abbrev pub DecidesFromRows : Day → ConstraintRow → List SupplyRow → List ScheduleRow → List ℕ → Result DecidedRows Refusal → Type 0
 DecidesFromRows day c supply scheduled new r =
     Decides (first_of (rows_refusals (view_of day) c supply scheduled)) c.hour (decided c supply scheduled (view_of day).running supply)
     (view_of day).running
     new
     r
 
-abbrev pub DecidesMarket : Day → ConstraintRow → List SupplyRow → Option Refusal → List ℕ → List ℕ → List ℕ → Deciding → Type 0
+abbrev pub DecidesMarket : Day → ConstraintRow → List SupplyRow → Option Refusal → List ℕ → List ℕ → List ℕ → Result DecidedRows Refusal → Type 0
 DecidesMarket day c supply waiting s k new r =
     Decides
     (first_of (beside_refusals (waiting ∷ []) c.hour (units supply) s k ++ rows_refusals (view_of day) c supply (priced_rows s k)))
@@ -63,7 +61,7 @@ DecidesMarket day c supply waiting s k new r =
     new
     r
 
-abbrev pub DecidesGroups : Day → ConstraintRow → List SupplyRow → List ℕ → List ℕ → List ℕ → List ℕ → Deciding → Type 0
+abbrev pub DecidesGroups : Day → ConstraintRow → List SupplyRow → List ℕ → List ℕ → List ℕ → List ℕ → Result DecidedRows Refusal → Type 0
 DecidesGroups day c ungrouped s k p new r =
     Decides
     (first_of
@@ -74,7 +72,7 @@ DecidesGroups day c ungrouped s k p new r =
     new
     r
 
-abbrev pub DecidesStudy : Day → Files → List ℕ → Deciding → Type 0
+abbrev pub DecidesStudy : Day → Files → List ℕ → Result DecidedRows Refusal → Type 0
 DecidesStudy day f new r =
     Decides (decision_refusal (view_of day) f) (constraint_of f.constraint).hour (study_rows (view_of day) f) (view_of day).running new r
 

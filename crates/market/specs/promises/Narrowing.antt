@@ -1,7 +1,6 @@
 -- What the search for the clearing cost keeps and promises: two bounds, each the cost of a row, between which the clearing
 -- cost lies. Assumes nothing.
-use Rattle.std.specs.Prelude.{ℕ, ◌≤◌, ◌<◌, ◌≡◌, ◌⊎◌, Bool, true, false, cond, ◌&&◌, List, ltb, eqb, length}
-use Rattle.std.proofs.Math.Option.{get_or}
+use Rattle.std.specs.Prelude.{ℕ, ◌≤◌, ◌<◌, ◌≡◌, ◌⊎◌, Bool, true, false, cond, ◌&&◌, List, ltb, eqb, length, unwrap_or}
 use Rattle.base.specs.Search.{first}
 use Rattle.tables.specs.Rows.{SupplyRow}
 use Rattle.tables.specs.promises.FlatRows.{supply_rows}
@@ -15,7 +14,7 @@ unfoldable pub eligible_at : ℕ → SupplyRow → SupplyRow → Bool
 eligible_at cutoff q r = eligible cutoff r && eqb (cost_beside q r) (cost_beside r q)
 
 unfoldable pub first_at : ℕ → SupplyRow → List SupplyRow → ℕ
-first_at cutoff q rows = get_or (first (eligible_at cutoff q) 0 rows) (length rows)
+first_at cutoff q rows = unwrap_or (first (eligible_at cutoff q) 0 rows) (length rows)
 
 -- the rows that are tried: some row of the clearing cost supplies something
 unfoldable pub counts : ℕ → SupplyRow → Bool

@@ -1,19 +1,11 @@
 -- What the searches over schedule rows answer and go by. Assumes nothing.
 use Rattle.std.specs.Prelude.{ℕ, zero, suc, ◌<◌, ◌≡◌, Bool, true, ◌&&◌, List, [], ◌∷◌, eqb}
-use Rattle.std.proofs.Math.Option.{Option, none, some}
 use Rattle.base.specs.Rising.{among}
 use Rattle.base.specs.Search.{any}
 use Rattle.tables.specs.Rows.{ScheduleRow}
 use Rattle.tables.specs.Table.{M}
 use Rattle.cells.specs.promises.Views.{schedule_at}
 use Rattle.schedules.specs.Schedules.{schedule_odds}
-use Rattle.schedules.specs.declared.rows.Lowest.{Lowest}
-use Rattle.schedules.specs.declared.rows.Lowest.TheVariants.{Number, Nothing}
-
--- the lowest unit at fault, as the code answers it
-abbrev pub lowest_of : Option ℕ → Lowest
-lowest_of none = Nothing
-lowest_of (some u) = Number u
 
 -- the rows before row k of a run, the last first
 unfoldable pub schedules_before : List ℕ → ℕ → List ScheduleRow

@@ -1,6 +1,5 @@
 -- What is known of schedule rows once refusals 1 to 6 are passed, as far as runs go by it. Assumes nothing.
-use Rattle.std.specs.Prelude.{ℕ, ◌≤◌, ◌≡◌, List}
-use Rattle.std.proofs.Math.Option.{none}
+use Rattle.std.specs.Prelude.{ℕ, ◌≤◌, ◌≡◌, List, None}
 use Rattle.base.specs.Search.{All}
 use Rattle.hours.specs.Hours.{last_hour}
 use Rattle.tables.specs.promises.Ranges.{PermittedSchedule}
@@ -11,4 +10,4 @@ use Rattle.schedules.specs.Schedules.{schedules_at_odds}
 pub record Checked (h : ℕ) (rs : List ScheduleRow) : Type 0 where
   pub hour : h ≤ last_hour
   pub ranges : All PermittedSchedule rs
-  pub agree : schedules_at_odds rs ≡ none
+  pub agree : schedules_at_odds rs ≡ None

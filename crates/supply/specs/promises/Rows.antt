@@ -1,7 +1,5 @@
 -- What the functions on supply rows promise, of rows that stand in a flat run of cells. Assumes nothing.
-use Rattle.std.specs.Prelude.{ℕ, zero, suc, ◌+◌, ◌*◌, ◌≤◌, ◌<◌, ◌≡◌, Bool, false, ◌||◌, List, [], ◌∷◌, ltb, length, get_or, take}
-use Rattle.std.proofs.Math.Option
-use Rattle.std.proofs.Math.Option.{none}
+use Rattle.std.specs.Prelude.{ℕ, zero, suc, ◌+◌, ◌*◌, ◌≤◌, ◌<◌, ◌≡◌, Bool, false, ◌||◌, List, [], ◌∷◌, ltb, length, get_or, take, None}
 use Rattle.base.specs.Search.{any}
 use Rattle.tables.specs.Rows.{SupplyRow}
 use Rattle.cells.specs.promises.Views.{supply_width, supply_at}
@@ -15,11 +13,11 @@ pub record Listed (most : ℕ) (wanted : List ℕ) (count : ℕ) (run : List ℕ
   pub counted : count ≡ length wanted
   pub listed : take count run ≡ wanted
 
--- the record that crowds, 0 for none; and where there is none, the units and the suppliers of all rows
+-- the record that crowds; and where there is none, the units and the suppliers of all rows
 pub record Counted (rows : List SupplyRow) (us ss : List ℕ) (r : Counts) : Type 0 where
-  pub place : r.place ≡ Option.get_or (over_limit rows) 0
-  pub all-units : over_limit rows ≡ none → Listed most_units (units rows) r.units us
-  pub all-suppliers : over_limit rows ≡ none → Listed most_suppliers (suppliers rows) r.suppliers ss
+  pub place : r.place ≡ over_limit rows
+  pub all-units : over_limit rows ≡ None → Listed most_units (units rows) r.units us
+  pub all-suppliers : over_limit rows ≡ None → Listed most_suppliers (suppliers rows) r.suppliers ss
 
 -- whether so many units and suppliers are too many
 unfoldable pub too_many : ℕ → ℕ → Bool

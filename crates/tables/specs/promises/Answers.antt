@@ -1,12 +1,9 @@
 -- What reading a file answers, and the cells that it lays down. Assumes nothing.
-use Rattle.std.specs.Prelude.{ℕ, List, [], ◌∷◌, ◌++◌, length}
-use Rattle.std.proofs.Math.Option.{Option, none, some}
+use Rattle.std.specs.Prelude.{ℕ, List, [], ◌∷◌, ◌++◌, length, Err, None, Ok, Option, Result, Some}
 use Rattle.tables.specs.Reading.{rows, misshapen, refusal}
 use Rattle.tables.specs.Table.{Column, table}
 use Rattle.tables.specs.Values.{cells}
 use Rattle.tables.specs.declared.files.File.{File}
-use Rattle.tables.specs.declared.files.Reading.{Reading}
-use Rattle.tables.specs.declared.files.Reading.TheVariants.{Rows, Refused}
 use Rattle.tables.specs.declared.files.Refusal.{Refusal}
 
 -- the cells of several rows, one row behind the other
@@ -14,17 +11,17 @@ unfoldable pub all_cells : List Column → List (List (List ℕ)) → List ℕ
 all_cells cs [] = []
 all_cells cs (r ∷ rs) = cells cs r ++ all_cells cs rs
 
-unfoldable pub reading : File → List ℕ → Reading
+unfoldable pub reading : File → List ℕ → Result ℕ Refusal
 reading f s = answer (refusal f s)
   where
-    answer : Option Refusal → Reading
-    answer none = Rows (length (rows s))
-    answer (some r) = Refused r
+    answer : Option Refusal → Result ℕ Refusal
+    answer None = Ok (length (rows s))
+    answer (Some r) = Err r
 
 -- the cells that reading lays down: every row's, unless the file is misshapen
 unfoldable pub laid : File → List ℕ → List ℕ
 laid f s = lay (misshapen f s)
   where
     lay : Option Refusal → List ℕ
-    lay none = all_cells (table f).columns (rows s)
-    lay (some r) = []
+    lay None = all_cells (table f).columns (rows s)
+    lay (Some r) = []

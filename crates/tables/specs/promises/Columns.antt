@@ -1,6 +1,7 @@
 -- The columns of all files, one behind the other, as the code's tables have them. Assumes nothing.
 use Rattle.std.specs.Prelude.{ℕ, List, ◌++◌, get_or}
-use Rattle.tables.specs.Table.{numeral, Column, column, constraint_columns, supply_columns, schedules_columns, curves_columns, parents_columns}
+use Rattle.tables.specs.Table.{Column, column, constraint_columns, supply_columns, schedules_columns, curves_columns, parents_columns}
+use Rattle.tables.specs.declared.columns.Form.TheVariants.{Numeral as numeral}
 use Rattle.tables.specs.declared.files.File.{File}
 use Rattle.tables.specs.declared.files.File.TheVariants.{Constraint, Supply, Schedules, Curves, Parents}
 

@@ -1,14 +1,13 @@
 -- What the steps of reading a file promise: of a field, a row, several rows, the header, and the whole. Assumes nothing.
-use Rattle.std.specs.Prelude.{ℕ, ◌*◌, ◌≤◌, ◌≡◌, true, false, List, ◌++◌, length, take, drop}
-use Rattle.std.proofs.Math.Option.{none, get_or}
+use Rattle.tables.specs.declared.files.Refusal.{Refusal}
+use Rattle.std.specs.Prelude.{ℕ, ◌*◌, ◌≤◌, ◌≡◌, true, false, List, ◌++◌, length, take, drop, None, Result}
 use Rattle.csv_text.specs.Records.{rfc4180, records}
 use Rattle.csv_text.specs.promises.Scan.{fitting}
 use Rattle.csv_text.specs.promises.Fields.{extent, inner, unread, texts, passed, record_texts}
 use Rattle.tables.specs.Table.{table, header, width}
 use Rattle.tables.specs.Reading.{same_fields, misfit, rows}
-use Rattle.tables.specs.Values.{value, is_some, cells, well_formed}
+use Rattle.tables.specs.Values.{value, cells, well_formed}
 use Rattle.tables.specs.declared.files.File.{File}
-use Rattle.tables.specs.declared.files.Reading.{Reading}
 use Rattle.tables.specs.declared.headers.Header.{Header}
 use Rattle.tables.specs.declared.rows.Field.{Field}
 use Rattle.tables.specs.declared.rows.Row.{Row}
@@ -20,8 +19,7 @@ use Rattle.base.specs.promises.Counting.{leading}
 pub record FieldRead (column : ℕ) (s : List ℕ) (r : Field) : Type 0 where
   pub within : r.next ≤ length s
   pub next : drop r.next s ≡ unread s (extent false s)
-  pub good : r.good ≡ is_some (value (column_at column) (inner (take (extent false s) s)))
-  pub cell : r.cell ≡ get_or (value (column_at column) (inner (take (extent false s) s))) 0
+  pub cell : r.cell ≡ value (column_at column) (inner (take (extent false s) s))
 
 -- the row at the start of s
 pub record RowLaid (f : File) (s old new : List ℕ) (r : Row) : Type 0 where
@@ -53,7 +51,7 @@ unfoldable pub room : File → ℕ
 room f = (table f).most_rows * width f
 
 -- a whole file: the answer, and every cell of the lent run
-pub record FileRead (f : File) (s old new : List ℕ) (r : Reading) : Type 0 where
+pub record FileRead (f : File) (s old new : List ℕ) (r : Result ℕ Refusal) : Type 0 where
   pub answers : r ≡ reading f s
   pub lays : new ≡ laid f s ++ drop (length (laid f s)) old
 
@@ -66,7 +64,7 @@ pub record Shaped (f : File) (s : List ℕ) (count fit : ℕ) : Type 0 where
 -- one whose records all fit, where the rows begin, and how many there are
 pub record RowsCounted (f : File) (s : List ℕ) (start count : ℕ) : Type 0 where
   pub regular : rfc4180 s ≡ true
-  pub fit : misfit f (records s) ≡ none
+  pub fit : misfit f (records s) ≡ None
   pub fits : fitting (width f) (records s) ≡ length (records s)
   pub within : start ≤ length s
   pub starts : drop start s ≡ passed (width f) s

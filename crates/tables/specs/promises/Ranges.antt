@@ -3,7 +3,9 @@
 use Rattle.std.specs.Prelude.{ℕ, ◌+◌, ◌≤◌, ◌≡◌, ◌⊎◌, List, [], ◌∷◌}
 use Rattle.tables.specs.Rows.{SupplyRow, ScheduleRow, PointRow, ParentRow}
 use Rattle.tables.specs.declared.constraint.ConstraintRow.{ConstraintRow}
-use Rattle.tables.specs.Table.{Form, numeral, signed, letter, Column, M, C, latest_hour, highest_supplier, highest_ecomin, highest_cost}
+use Rattle.tables.specs.Table.{Column, M, C, latest_hour, highest_supplier, highest_ecomin, highest_cost}
+use Rattle.tables.specs.declared.columns.Form.{Form}
+use Rattle.tables.specs.declared.columns.Form.TheVariants.{Numeral as numeral, Signed as signed, Letter as letter}
 
 -- a number within its column's range
 abbrev pub Permits : Form → ℕ → ℕ → ℕ → Type 0

@@ -1,6 +1,5 @@
 -- The values of rows beside the cells that they are. Assumes nothing.
-use Rattle.std.specs.Prelude.{ℕ, ◌≡◌, List, [], ◌∷◌, ◌++◌}
-use Rattle.std.proofs.Math.Option.{some}
+use Rattle.std.specs.Prelude.{ℕ, ◌≡◌, List, [], ◌∷◌, ◌++◌, Some}
 use Rattle.tables.specs.Table.{Column}
 use Rattle.tables.specs.Values.{value}
 
@@ -9,7 +8,7 @@ pub data CellsOf : List Column → List (List ℕ) → List ℕ → Type 0 where
   none : CellsOf [] [] []
   more :
       {c : Column} {cs : List Column} {v : List ℕ} {vs : List (List ℕ)} {x : ℕ} {xs : List ℕ} →
-      value c v ≡ some x → CellsOf cs vs xs → CellsOf (c ∷ cs) (v ∷ vs) (x ∷ xs)
+      value c v ≡ Some x → CellsOf cs vs xs → CellsOf (c ∷ cs) (v ∷ vs) (x ∷ xs)
 
 -- of several, whose cells stand one row behind the other
 pub data RowsOf (cs : List Column) : List (List (List ℕ)) → List ℕ → Type 0 where

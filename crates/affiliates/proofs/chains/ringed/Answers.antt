@@ -6,37 +6,16 @@ use Rattle.affiliates.proofs.chains.ringed.Goals as goal
 pub loop-i-init : goal.loop-i-init
 loop-i-init c = searching-none _ _ _ c.requires.parent_cells c.requires.parents_in
 
-pub overflow_mul-supplier : goal.overflow_mul-supplier
-overflow_mul-supplier c = omega (arith, c.loop-i.invariant.cells_in.few)
-
-pub overflow_add-supplier : goal.overflow_add-supplier
-overflow_add-supplier c = omega (arith, c.loop-i.invariant.cells_in.few)
-
-pub offset_bounds-cells-i : goal.offset_bounds-cells-i
-offset_bounds-cells-i c = omega arith
-
-pub bounds-cells-i : goal.bounds-cells-i
-bounds-cells-i c = omega (arith, c.loop-i.invariant.cells_in.inside)
-
 pub comes_back-requires : goal.comes_back-requires
 comes_back-requires c =
     let s = c.loop-i.invariant in
     record { parent_run = s.parents-in.a-run; at_le_highest_supplier = searching-ranged _ _ _ _ s c.loop-i-test.true }
-
-pub overflow_add-result : goal.overflow_add-result
-overflow_add-result c = omega (arith, c.loop-i.invariant.cells_in.few)
 
 pub returns-then-comes_back : goal.returns-then-comes_back
 returns-then-comes_back c =
     searching-here _ _ _ _ c.loop-i.invariant (omega arith) _ _ c.comes_back.ensures
     (omega arith)
     c.if-comes_back.true
-
-pub overflow_add-i : goal.overflow_add-i
-overflow_add-i c = omega (arith, c.loop-i.invariant.cells_in.few)
-
-pub loop-i-smaller : goal.loop-i-smaller
-loop-i-smaller c = omega arith
 
 pub loop-i-preserved : goal.loop-i-preserved
 loop-i-preserved c =

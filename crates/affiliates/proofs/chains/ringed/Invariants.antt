@@ -1,10 +1,6 @@
 -- The first record whose chain comes back, one row a turn. Assumes nothing.
-use Prim.Native.Nat.{◌-◌}
 use Rattle.affiliates.proofs.WalkLaws.{Searching}
 use Rattle.affiliates.proofs.chains.ringed.Given as goal
 
 abbrev pub invariant-loop-i : goal.invariant-loop-i
 invariant-loop-i l = Searching l.cells l.n l.parents l.i
-
-abbrev pub decreases-loop-i : goal.decreases-loop-i
-decreases-loop-i l = l.n - l.i

@@ -1,10 +1,6 @@
 -- The parents laid down, one row a turn. Assumes nothing.
-use Prim.Native.Nat.{◌-◌}
 use Rattle.affiliates.proofs.LayingLaws.{Laying}
 use Rattle.affiliates.proofs.parents.lay_parents.Given as goal
 
 abbrev pub invariant-loop-i : goal.invariant-loop-i
 invariant-loop-i l = Laying l.cells l.n l.initial.parents l.parents l.i
-
-abbrev pub decreases-loop-i : goal.decreases-loop-i
-decreases-loop-i l = l.n - l.i

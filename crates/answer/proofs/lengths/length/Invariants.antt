@@ -1,10 +1,6 @@
 -- The rows' lengths, one a turn. Assumes nothing.
-use Prim.Native.Nat.{◌-◌}
 use Rattle.answer.proofs.LoopLaws.{RowsCounted}
 use Rattle.answer.proofs.lengths.length.Given as goal
 
 abbrev pub invariant-loop-i : goal.invariant-loop-i
 invariant-loop-i l = RowsCounted l.n l.cells l.i l.at
-
-abbrev pub decreases-loop-i : goal.decreases-loop-i
-decreases-loop-i l = l.n - l.i

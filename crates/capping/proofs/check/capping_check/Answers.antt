@@ -9,10 +9,10 @@ pub check_market-check-requires : goal.check_market-check-requires
 check_market-check-requires c = record { room_in_bounds = omega (arith, supply-room); most_units_in_bounds = omega arith }
 
 pub schedules_number-requires : goal.schedules_number-requires
-schedules_number-requires c = market-fits _ _ _ _ c.check_market-check.ensures _ c.in-Passed.is (omega arith)
+schedules_number-requires c = market-fits _ _ _ _ c.check_market-check.ensures _ c.in-Ok.is (omega arith)
 
-pub returns-in-Refused : goal.returns-in-Refused
-returns-in-Refused c = market-number _ _ _ _ c.check_market-check.ensures _ c.in-Refused.is
+pub returns-in-Err : goal.returns-in-Err
+returns-in-Err c = market-number _ _ _ _ c.check_market-check.ensures _ c.in-Err.is
 
-pub returns-in-Passed : goal.returns-in-Passed
-returns-in-Passed c = files-number _ _ _ _ c.check_market-check.ensures _ c.in-Passed.is _ c.schedules_number.ensures
+pub returns-in-Ok : goal.returns-in-Ok
+returns-in-Ok c = files-number _ _ _ _ c.check_market-check.ensures _ c.in-Ok.is _ c.schedules_number.ensures

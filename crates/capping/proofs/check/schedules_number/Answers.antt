@@ -9,8 +9,8 @@ use Rattle.capping.proofs.check.schedules_number.Goals as goal
 pub check_schedules-reading-requires : goal.check_schedules-reading-requires
 check_schedules-reading-requires c = record { market_fits = search rules; room_in_bounds = omega (arith, schedules-room); links_length_in_bounds = omega arith; unlinked = unlinked 5111 }
 
-pub returns-in-Refused : goal.returns-in-Refused
-returns-in-Refused c = schedules-number _ _ _ _ c.check_schedules-reading.ensures c.in-Refused.is
+pub returns-in-Err : goal.returns-in-Err
+returns-in-Err c = schedules-number _ _ _ _ c.check_schedules-reading.ensures c.in-Err.is
 
-pub returns-in-Rows : goal.returns-in-Rows
-returns-in-Rows c = schedules-zero _ _ _ _ c.check_schedules-reading.ensures c.in-Rows.is
+pub returns-in-Ok : goal.returns-in-Ok
+returns-in-Ok c = schedules-zero _ _ _ _ c.check_schedules-reading.ensures c.in-Ok.is

@@ -2,10 +2,10 @@
 use Rattle.capping.specs.Days.{hour_cells}
 use Rattle.capping.proofs.days.has_hour.Goals as goal
 
-pub returns-in-Fresh : goal.returns-in-Fresh
+pub returns-in-None : goal.returns-in-None
 unfolding hour_cells
-returns-in-Fresh c = rw c.in-Fresh.is
+returns-in-None c = rw c.in-None.is
 
-pub returns-in-At : goal.returns-in-At
+pub returns-in-Some : goal.returns-in-Some
 unfolding hour_cells
-returns-in-At c = rw c.in-At.is
+returns-in-Some c = rw c.in-Some.is

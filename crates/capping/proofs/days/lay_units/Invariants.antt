@@ -1,5 +1,4 @@
 -- One place after the other. Assumes nothing.
-use Prim.Native.Nat.{◌-◌}
 use mathlib.Core.Path.{◌≡◌}
 use lib.ListN.{length}
 use Rattle.outcome.specs.Day.{most_running}
@@ -10,6 +9,3 @@ use Rattle.capping.proofs.days.lay_units.Given as goal
 abbrev pub invariant-loop-i : goal.invariant-loop-i
 invariant-loop-i l =
     Laying (units_of l.units) l.initial.cells l.cells l.i × (l.count ≡ l.units.count) × (length l.units.running ≡ most_running)
-
-abbrev pub decreases-loop-i : goal.decreases-loop-i
-decreases-loop-i l = most_running - l.i

@@ -1,11 +1,6 @@
 -- One place after the other. Assumes nothing.
-use Prim.Native.Nat.{◌-◌}
-use Rattle.outcome.specs.Day.{most_running}
 use Rattle.capping.proofs.DayInLaws.{Taking}
 use Rattle.capping.proofs.days.units_in.Given as goal
 
 abbrev pub invariant-loop-i : goal.invariant-loop-i
 invariant-loop-i l = Taking l.cells l.running l.i
-
-abbrev pub decreases-loop-i : goal.decreases-loop-i
-decreases-loop-i l = most_running - l.i

@@ -6,4 +6,4 @@ pub returns : goal.returns
 returns c =
     let seen = c.day_in-given.ensures in
     let previews = c.preview-previewed.ensures.previews in
-    record { preview_told = preview-told _ _ seen _ _ _ previews _ _ c.show.ensures c.told_by_preview-told.ensures c.report_on.ensures; shown_right = shown-right _ _ seen _ _ _ previews _ _ c.show.ensures c.told_by_preview-told.ensures }
+    record { preview_told = preview-told _ _ seen _ _ _ previews _ _ c.show.ensures c.told_by-told.ensures c.report_on.ensures; shown_right = shown-right _ _ seen _ _ _ previews _ _ c.show.ensures c.told_by-told.ensures }

@@ -4,4 +4,4 @@ use Rattle.capping.proofs.tidying.capping_tidy.Goals as goal
 
 pub returns : goal.returns
 returns c =
-    tidy-told c.tidy_numbered-tidied.ensures c.told_by_tidy.ensures c.report_on.ensures c.tidy_count.ensures
+    tidy-told c.tidy_numbered-tidied.ensures c.told_by.ensures c.report_on.ensures c.count_of.ensures

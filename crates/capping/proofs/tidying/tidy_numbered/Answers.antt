@@ -14,4 +14,4 @@ returns-then-file-eq-SCHEDULES c = rw (is-schedules c.args.file (omega arith)) c
 
 pub returns : goal.returns
 returns c =
-    rw (is-no-file c.args.file (λ e. omega arith) (λ e. omega arith) (λ e. omega arith)) (no-such-file _)
+    rw (c.bare.ensures, is-no-file c.args.file (λ e. omega arith) (λ e. omega arith) (λ e. omega arith)) (no-such-file _)

@@ -1,9 +1,13 @@
 -- 8, then 9. Assumes nothing.
+use Rattle.std.proofs.lemmas.Result.{err_from_is_err_and}
+use borrow.Author.Rules.{rules}
 use Rattle.checking.proofs.RuleLaws.{eighth-broken, ninth-held}
 use Rattle.checking.proofs.rules.hold_units.Goals as goal
 
-pub returns-in-Refused : goal.returns-in-Refused
-returns-in-Refused c = eighth-broken _ _ _ _ c.hold_to-first.ensures c.in-Refused.is
+pub returns-in_err-answer : goal.returns-in_err-answer
+returns-in_err-answer c =
+    let p = err_from_is_err_and c.from_residual.result c.from_residual.ensures.1 in
+    rw (p.1, p.2) (eighth-broken _ _ _ _ (search rules) c.in_err-answer.was)
 
-pub returns-in-Rows : goal.returns-in-Rows
-returns-in-Rows c = ninth-held _ _ _ _ c.hold_to-first.ensures c.in-Rows.is c.hold_to.ensures
+pub returns : goal.returns
+returns c = ninth-held _ _ _ _ (search rules) c.in_ok-answer.was (search rules)

@@ -10,23 +10,11 @@ use Rattle.choice.proofs.UnitLaws.{row_here}
 use Rattle.choice.proofs.ChoiceLaws.{offered-hour, weighed-own, weighed-not, best-walk, best-over}
 use Rattle.choice.proofs.choosing.choose.Goals as goal
 
-pub has_any-requires : goal.has_any-requires
-has_any-requires c = record { schedule_cells = c.requires.schedule_cells; rows_linked = c.requires.rows_linked }
-
-pub eligible_kinds-kinds-requires : goal.eligible_kinds-kinds-requires
-eligible_kinds-kinds-requires c = tt
-
-pub overflow_add-unit_key : goal.overflow_add-unit_key
-overflow_add-unit_key c = omega arith
-
 pub link_at-left-requires : goal.link_at-left-requires
 link_at-left-requires c = omega (arith, rows-length c.requires.rows_linked)
 
 pub loop-left-init : goal.loop-left-init
 loop-left-init c = rw c.link_at-left.ensures (let key = c.unit_key.ensures in best-walk _ _ _ _ _ _ _ _ c.requires.rows_linked key.0 key.1)
-
-pub overflow_sub-k : goal.overflow_sub-k
-overflow_sub-k c = omega arith
 
 pub offers-requires : goal.offers-requires
 offers-requires c = row_here _ _ c.requires.schedule_cells _ (omega arith)
@@ -35,12 +23,6 @@ pub shown-requires : goal.shown-requires
 shown-requires c =
     let k = c.loop-left.left - 1 in
     record { schedule_cells = c.requires.schedule_cells; rows_linked = c.requires.rows_linked; i_lt_n = omega arith; hour_le_last_hour = offered-hour _ _ _ _ c.offers.ensures c.if-offers.true (row_here _ _ c.requires.schedule_cells k (omega arith)).ranged }
-
-pub kept-best-requires : goal.kept-best-requires
-kept-best-requires c = tt
-
-pub link_at-left-requires-in-loop-left : goal.link_at-left-requires-in-loop-left
-link_at-left-requires-in-loop-left c = omega (arith, c.loop-left.invariant.leads.room)
 
 pub loop-left-smaller : goal.loop-left-smaller
 loop-left-smaller c = rw c.link_at-left-in-loop-left.ensures (walk-less _ _ _ _ _ _ c.loop-left.invariant c.loop-left-test.true)

@@ -6,26 +6,17 @@ use Rattle.choice.proofs.UnitLaws.{row_here}
 use Rattle.choice.proofs.ChoiceLaws.{any-rows, along-offers}
 use Rattle.choice.proofs.choosing.has_any.Goals as goal
 
-pub overflow_add-unit_key : goal.overflow_add-unit_key
-overflow_add-unit_key c = omega arith
-
 pub link_at-left-requires : goal.link_at-left-requires
 link_at-left-requires c = omega (arith, rows-length c.requires.rows_linked)
 
 pub loop-left-init : goal.loop-left-init
 loop-left-init c = rw c.link_at-left.ensures (let key = c.unit_key.ensures in along-offers _ _ _ _ _ _ _ c.requires.rows_linked key.0 key.1)
 
-pub overflow_sub-k : goal.overflow_sub-k
-overflow_sub-k c = omega arith
-
 pub offers-requires : goal.offers-requires
 offers-requires c = row_here _ _ c.requires.schedule_cells _ (omega arith)
 
 pub returns-then-offers : goal.returns-then-offers
 returns-then-offers c = along-here _ _ _ _ c.loop-left.invariant c.loop-left-test.true (sym c.offers.ensures ∙ c.if-offers.true) ∙ sym (any-rows _ _ _ _ _)
-
-pub link_at-left-requires-in-loop-left : goal.link_at-left-requires-in-loop-left
-link_at-left-requires-in-loop-left c = omega (arith, c.loop-left.invariant.leads.room)
 
 pub loop-left-smaller : goal.loop-left-smaller
 loop-left-smaller c = rw c.link_at-left-in-loop-left.ensures (along-less _ _ _ _ c.loop-left.invariant c.loop-left-test.true)

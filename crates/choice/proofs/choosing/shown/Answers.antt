@@ -8,6 +8,6 @@ returns c =
     simp (
       c.cell.ensures,
       c.kind.ensures,
-      c.running.ensures,
+      c.is_some.ensures,
       c.cost.ensures,
     )

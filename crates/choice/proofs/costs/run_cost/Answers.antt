@@ -6,23 +6,8 @@ use Rattle.choice.proofs.UnitLaws.{row_here}
 use Rattle.choice.proofs.CostLaws.{run-walk, run_fits, run-over}
 use Rattle.choice.proofs.costs.run_cost.Goals as goal
 
-pub cell-requires : goal.cell-requires
-cell-requires c = record { schedule_width_in_bounds = omega (arith, c.requires.schedule_cells.room); column_lt_schedule_width = omega (arith, c.requires.schedule_cells.room) }
-
-pub cell-requires-2 : goal.cell-requires-2
-cell-requires-2 c = record { schedule_width_in_bounds = omega (arith, c.requires.schedule_cells.room); column_lt_schedule_width = omega (arith, c.requires.schedule_cells.room) }
-
-pub overflow_add-key : goal.overflow_add-key
-overflow_add-key c = omega arith
-
-pub link_at-left-requires : goal.link_at-left-requires
-link_at-left-requires c = omega (arith, c.requires.linked.room)
-
 pub loop-left-init : goal.loop-left-init
 loop-left-init c = rw c.link_at-left.ensures (let key = c.schedule_key-key.ensures in let a = c.args in run-walk a.n a.cells.now a.hour a.s _ _ c.requires.linked (key.0 ∙ rw (c.cell-2.ensures, c.cell.ensures)) key.1)
-
-pub overflow_sub-k : goal.overflow_sub-k
-overflow_sub-k c = omega arith
 
 pub share-sum-requires : goal.share-sum-requires
 share-sum-requires c =
@@ -31,9 +16,6 @@ share-sum-requires c =
 
 pub overflow_add-sum : goal.overflow_add-sum
 overflow_add-sum c = let a = c.args in omega (arith, c.share-sum.ensures, run_fits a.n a.cells.now a.hour a.s _ _ _ c.requires.schedule_cells c.loop-left.invariant c.loop-left-test.true)
-
-pub link_at-left-requires-in-loop-left : goal.link_at-left-requires-in-loop-left
-link_at-left-requires-in-loop-left c = omega (arith, c.loop-left.invariant.leads.room)
 
 pub loop-left-smaller : goal.loop-left-smaller
 loop-left-smaller c = rw c.link_at-left-in-loop-left.ensures (walk-less _ _ _ _ _ _ c.loop-left.invariant c.loop-left-test.true)

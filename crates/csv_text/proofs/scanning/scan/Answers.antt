@@ -8,33 +8,23 @@ use Rattle.csv_text.proofs.Scanned.{tally-scans}
 use Rattle.csv_text.proofs.Tallies.{step-bounded, tally-next, tally-end}
 use Rattle.csv_text.proofs.scanning.scan.Goals as goal
 
-pub loop-i-init : goal.loop-i-init
+pub loop-b-init : goal.loop-b-init
 unfolding tally_of start
-loop-i-init c = (search rules, record { fields = search rules; records = search rules; fitting = search rules }, refl)
-
-pub bounds-s-i : goal.bounds-s-i
-bounds-s-i c = omega arith
+loop-b-init c = (record { fields = search rules; records = search rules; fitting = search rules }, refl)
 
 pub step-t-requires : goal.step-t-requires
 unfolding tally_of
 step-t-requires c = omega arith
 
-pub overflow_add-i : goal.overflow_add-i
-overflow_add-i c = omega arith
-
-pub loop-i-smaller : goal.loop-i-smaller
-loop-i-smaller c = omega arith
-
-pub loop-i-preserved : goal.loop-i-preserved
-loop-i-preserved c =
+pub loop-b-preserved : goal.loop-b-preserved
+loop-b-preserved c =
     let s = c.args.s.now in
     let width = c.args.width in
-    let i = c.loop-i.i in
-    let t = tally_of c.loop-i.t in
-    let inv = c.loop-i.invariant in (
-      omega arith,
-      rw c.step-t.ensures (step-bounded width i (get_or s i 0) t inv.1),
-      inv.2 ∙ tally-next width t s i (omega arith) ∙ rw c.step-t.ensures,
+    let i = c.loop-b.b-index in
+    let t = tally_of c.loop-b.t in
+    let inv = c.loop-b.invariant in (
+      rw c.step-t.ensures (step-bounded width i (get_or s i 0) t inv.0),
+      inv.1 ∙ tally-next width t s i (omega arith) ∙ rw c.step-t.ensures,
     )
 
 pub finished-requires : goal.finished-requires
@@ -45,5 +35,5 @@ pub returns : goal.returns
 returns c =
     let s = c.args.s.now in
     let width = c.args.width in
-    let loop = c.loop-i in
-    c.finished.ensures ∙ rw (tally-scans width s, loop.invariant.2, tally-end width (tally_of loop.t) s loop.i (omega arith))
+    let loop = c.loop-b in
+    c.finished.ensures ∙ rw (tally-scans width s, loop.invariant.1, tally-end width (tally_of loop.t) s loop.b-index (omega arith))

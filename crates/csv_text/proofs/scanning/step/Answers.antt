@@ -13,4 +13,4 @@ overflow_add-result c = omega (arith, one-le (separates (state c.args.t.place) c
 
 pub returns : goal.returns
 unfolding step tally_of inside_field
-returns c = simp (← c.at_end.ensures, c.if-at_end.false, ← c.next-after.ensures, c.at_least_one.ensures, c.separator.ensures)
+returns c = simp (← c.at_end.ensures, c.if-at_end.false, ← c.next-after.ensures, c.max.ensures, c.separator.ensures)

@@ -5,6 +5,3 @@ use Rattle.curves.proofs.keys.own_key.Goals as goal
 
 pub overflow_cast-number : goal.overflow_cast-number
 overflow_cast-number c = omega (arith, c.shared_slice_known-1.given (c.args.unit % 10240))
-
-pub returns : goal.returns
-returns c = (omega arith, omega arith)

@@ -6,14 +6,8 @@ use Rattle.curves.proofs.ordering.breaks.Goals as goal
 pub returns-then-last-eq0 : goal.returns-then-last-eq0
 returns-then-last-eq0 c = breaks-none _ _ _ _ (omega arith)
 
-pub cell-requires-2 : goal.cell-requires-2
-cell-requires-2 c = record { point_width_in_bounds = omega arith; column_lt_point_width = omega arith }
-
 pub returns-then-cell : goal.returns-then-cell
 returns-then-cell c = breaks-mw _ _ _ _ (omega arith) (omega arith)
-
-pub cell-requires-4 : goal.cell-requires-4
-cell-requires-4 c = record { point_width_in_bounds = omega arith; column_lt_point_width = omega arith }
 
 pub returns-then-cell-2 : goal.returns-then-cell-2
 returns-then-cell-2 c = breaks-price _ _ _ _ (omega arith) (omega arith) (omega arith)

@@ -7,8 +7,3 @@ pub link_schedules-requires : goal.link_schedules-requires
 link_schedules-requires c =
     let pre = c.requires in
     record { n_le_most_linked = pre.n_le_most_linked; schedule_width_in_bounds = pre.schedule_width_in_bounds; unit_places_in_bounds = omega arith; own_keys_in_bounds = omega arith; unlinked = unlinked 9216 }
-
-pub place_each-requires : goal.place_each-requires
-place_each-requires c =
-    let pre = c.requires in
-    record { point_cells = pre.point_cells; schedule_width_in_bounds = pre.schedule_width_in_bounds; unit_places_in_bounds = omega arith; linked = c.link_schedules.ensures; m_in_bounds = pre.m_in_bounds }

@@ -1,13 +1,14 @@
 -- Whether a unit that runs on cost has no C schedule. Assumes nothing.
-use mathlib.Core.Path.{refl}
+use mathlib.Core.Path.{refl, ◌∙◌, ap}
+use Rattle.std.specs.Prelude.{Some}
 use Rattle.decision.proofs.ChoosingLaws.{lacks-none, lacks-on-cost}
 use Rattle.decision.proofs.choosing.lacks_cost.Goals as goal
 
-pub returns-in-NotRunning : goal.returns-in-NotRunning
-returns-in-NotRunning c = lacks-none _ _ _ _ c.in-NotRunning.is refl
+pub returns-in-None : goal.returns-in-None
+returns-in-None c = lacks-none _ _ _ _ c.in-None.is refl
 
-pub returns-in-OnM : goal.returns-in-OnM
-returns-in-OnM c = lacks-none _ _ _ _ c.in-OnM.is refl
+pub returns-in-M : goal.returns-in-M
+returns-in-M c = lacks-none _ _ _ _ (c.in-Some.is ∙ ap Some c.in-M.is) refl
 
-pub returns-in-OnC : goal.returns-in-OnC
-returns-in-OnC c = lacks-on-cost _ _ _ c.in-OnC.is c.has_any.ensures
+pub returns-in-C : goal.returns-in-C
+returns-in-C c = lacks-on-cost _ _ _ (c.in-Some.is ∙ ap Some c.in-C.is) c.has_any.ensures

@@ -1,5 +1,4 @@
 -- The tests, one unit a turn. Assumes nothing.
-use Prim.Native.Nat.{◌≤◌, ◌-◌}
 use mathlib.Core.Path.{◌≡◌}
 use lib.ListN.{length}
 use Rattle.supply.specs.Supply.{most_units}
@@ -9,7 +8,4 @@ use Rattle.tables.specs.promises.FlatRows.{supply_rows}
 use Rattle.decision.proofs.testing.test_each.Given as goal
 
 abbrev pub invariant-loop-i : goal.invariant-loop-i
-invariant-loop-i l = (l.i ≤ l.k) × (length l.initial.tests ≡ most_units) × Filling (unit_test l.constraint (supply_rows l.n l.cells)) l.units l.initial.tests l.tests l.i
-
-abbrev pub decreases-loop-i : goal.decreases-loop-i
-decreases-loop-i l = l.k - l.i
+invariant-loop-i l = (length l.initial.tests ≡ most_units) × Filling (unit_test l.constraint (supply_rows l.n l.cells)) l.units l.initial.tests l.tests l.i

@@ -1,4 +1,7 @@
 -- A unit's test in a market that is not short. Assumes nothing.
+use Rattle.std.proofs.Common.{rules, tests}
+use Rattle.numbers.proofs.SearchLaws.{place-told}
+use Rattle.offers.specs.promises.Ranges.{SupplyRowAt}
 use Rattle.offers.proofs.CellLaws.{row-cells}
 use Rattle.decision.proofs.StandingLaws.{relief-fits}
 use Rattle.decision.proofs.TestingLaws.{market-clears, party-tested, party-not-refused, relevant-wanted, test-failed, test-passed}
@@ -13,10 +16,11 @@ party-requires c = row-cells _ _ _ c.requires.market_cells.rows c.requires.unit_
 pub need_of-requires : goal.need_of-requires
 need_of-requires c = relief-fits _ _ _ c.requires.market_cells
 
-pub has_wanted-exposed-requires : goal.has_wanted-exposed-requires
-has_wanted-exposed-requires c =
+pub has_wanted-exposed-requires-clause-callable : goal.has_wanted-exposed-requires-clause-callable
+has_wanted-exposed-requires-clause-callable c =
     let market = c.requires.market_cells in
-    record { supply_cells = market.rows; unit_found = c.requires.unit_found; wanted_cells = row-cells _ _ _ market.rows (market-clears _ _ _ market c.requires.in_market) }
+    let clearing : SupplyRowAt c.args.cells.now c.args.clearing = row-cells _ _ _ market.rows (market-clears _ _ _ market c.requires.in_market) in
+    λ k h. let row : SupplyRowAt c.args.cells.now k = row-cells _ _ k market.rows h in search rules
 
 pub returns-in-Fails : goal.returns-in-Fails
 returns-in-Fails c =
@@ -24,20 +28,20 @@ returns-in-Fails c =
     let in-market = c.requires.in_market in
     let found = c.requires.unit_found in
     let (remains, fails) =
-    party-tested _ _ _ market in-market _ _ found c.party.ensures c.place_of-place.ensures c.need_of.ensures c.test-tested.ensures c.in-Tested.is c.in-Fails.is
+    party-tested _ _ _ market in-market _ _ found c.party.ensures (place-told _ _ c.place_of.ensures c.unwrap_or-place.ensures) c.need_of.ensures c.test-outcome.ensures c.in-Some.is c.in-Fails.is
     in
-    test-failed _ _ _ _ found.found _ c.supplier-own.ensures in-market.enough _ remains fails _ (relevant-wanted _ _ _ market in-market _ _ c.has_wanted-exposed.ensures)
+    test-failed _ _ _ _ found.found _ c.supplier-own.ensures in-market.enough _ remains fails _ (relevant-wanted _ _ _ market in-market _ _ (c.has_wanted-exposed.ensures _ (λ k b h e. search (rules, tests))))
 
 pub returns-in-Passes : goal.returns-in-Passes
 returns-in-Passes c =
     let in-market = c.requires.in_market in
     let found = c.requires.unit_found in
     let (remains, passes) =
-    party-tested _ _ _ c.requires.market_cells in-market _ _ found c.party.ensures c.place_of-place.ensures c.need_of.ensures c.test-tested.ensures c.in-Tested.is c.in-Passes.is
+    party-tested _ _ _ c.requires.market_cells in-market _ _ found c.party.ensures (place-told _ _ c.place_of.ensures c.unwrap_or-place.ensures) c.need_of.ensures c.test-outcome.ensures c.in-Some.is c.in-Passes.is
     in
     test-passed _ _ _ _ found.found _ c.supplier-own.ensures in-market.enough _ remains passes
 
-pub returns-in-Refused : goal.returns-in-Refused
-returns-in-Refused c =
+pub returns-in-None : goal.returns-in-None
+returns-in-None c =
     absurd
-    (party-not-refused _ _ _ c.requires.market_cells c.requires.in_market _ _ c.requires.unit_found c.party.ensures c.place_of-place.ensures c.need_of.ensures c.test-tested.ensures c.in-Refused.is)
+    (party-not-refused _ _ _ c.requires.market_cells c.requires.in_market _ _ c.requires.unit_found c.party.ensures (place-told _ _ c.place_of.ensures c.unwrap_or-place.ensures) c.need_of.ensures c.test-outcome.ensures c.in-None.is)

@@ -8,14 +8,8 @@ use Rattle.market.proofs.clearing.clearing_row.Goals as goal
 pub returns-then-need-eq0 : goal.returns-then-need-eq0
 returns-then-need-eq0 c = none-clears _ _ _ _ (clears-nothing _ _ (omega arith) _)
 
-pub clearing_cost-row-requires : goal.clearing_cost-row-requires
-clearing_cost-row-requires c = record { supply_cells = c.requires; need_nonzero = omega arith }
-
 pub returns-then-n-row : goal.returns-then-n-row
 returns-then-n-row c = none-clears _ _ _ _ (c.clearing_cost-row.ensures.none-clears (omega arith))
-
-pub first_at-requires : goal.first_at-requires
-first_at-requires c = record { supply_cells = c.requires; limit_lt_n = omega arith }
 
 pub returns : goal.returns
 returns c =

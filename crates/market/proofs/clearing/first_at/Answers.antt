@@ -1,33 +1,29 @@
 -- The search for the first row of a cost. Assumes nothing.
-use mathlib.Core.Path.{sym, ◌∙◌}
-use native.Mathlib.Omega.{arith}
-use Rattle.market.specs.promises.Narrowing.{first_at}
+use Rattle.std.proofs.Common.{refl, sym, ◌∙◌, arith, rules, tests}
+use Rattle.std.proofs.lemmas.Iterator.{YieldsList-from_range, serves_from_Range}
+use Rattle.std.proofs.lemmas.Iterator.Adapters.{option_map_id}
+use Rattle.std.proofs.lemmas.Iterator.Search.{find_from_yields_List}
+use Rattle.cells.specs.promises.Views.{supply_at}
+use Rattle.offers.specs.promises.Ranges.{SupplyRowAt}
 use Rattle.offers.proofs.CellLaws.{row-cells}
-use Rattle.market.proofs.TryLaws.{trying-none, trying-next, trying-here, trying-over}
+use Rattle.market.specs.promises.Narrowing.{eligible_at, first_at}
+use Rattle.market.proofs.TryLaws.{first-tried}
 use Rattle.market.proofs.clearing.first_at.Goals as goal
 
-pub loop-row-init : goal.loop-row-init
-loop-row-init c = trying-none _ _ _
-
-pub is_at-requires : goal.is_at-requires
-is_at-requires c =
-    record { supply_row_at = row-cells _ _ _ c.requires.supply_cells (omega arith); supply_row_at_2 = row-cells _ _ _ c.requires.supply_cells c.requires.limit_lt_n }
-
-pub returns-then-is_at : goal.returns-then-is_at
-unfolding first_at
-returns-then-is_at c = let loop = c.loop-row in
-    trying-here _ _ _ loop.row loop.invariant (omega arith) (sym c.is_at.ensures ∙ c.if-is_at.true)
-
-pub overflow_add-row : goal.overflow_add-row
-overflow_add-row c = omega arith
-
-pub loop-row-smaller : goal.loop-row-smaller
-loop-row-smaller c = omega arith
-
-pub loop-row-preserved : goal.loop-row-preserved
-loop-row-preserved c = let loop = c.loop-row in
-    trying-next _ _ _ loop.row loop.invariant (omega arith) (sym c.is_at.ensures ∙ c.if-is_at.false)
+pub find-requires-clause-callable : goal.find-requires-clause-callable
+find-requires-clause-callable c =
+    let a = c.args in
+    let limit : SupplyRowAt a.cells.now a.limit = row-cells _ _ _ c.requires.supply_cells c.requires.limit_lt_n in
+    serves_from_Range (λ x q h. search rules) (λ x l h. let row : SupplyRowAt a.cells.now x = row-cells _ _ x c.requires.supply_cells h in search rules)
 
 pub returns : goal.returns
 unfolding first_at
-returns c = trying-over _ _ _ c.loop-row.row c.loop-row.invariant (omega arith)
+returns c =
+    let a = c.args in
+    let q = supply_at a.cells.now a.limit in
+    c.unwrap_or.ensures
+    ∙ first-tried a.n a.cells.now (eligible_at a.cutoff q) c.find.result
+    (sym (option_map_id c.find.result)
+    ∙ find_from_yields_List (λ j. eligible_at a.cutoff q (supply_at a.cells.now j)) _ _ c.find.result c.find.ensures.ran
+    (YieldsList-from_range 0 a.n a.n refl (omega arith))
+    (λ x b q k. search (rules, tests)))

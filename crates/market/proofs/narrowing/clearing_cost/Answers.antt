@@ -6,18 +6,6 @@ use Rattle.market.proofs.narrowing.clearing_cost.Goals as goal
 pub loop-turn-init : goal.loop-turn-init
 loop-turn-init c = searching-none _ _ _ _
 
-pub overflow_mul-turn : goal.overflow_mul-turn
-overflow_mul-turn c = omega arith
-
-pub narrowed-bounds-requires : goal.narrowed-bounds-requires
-narrowed-bounds-requires c = record { supply_cells = c.requires.supply_cells; bounding = c.loop-turn.invariant.bounding }
-
-pub overflow_add-turn : goal.overflow_add-turn
-overflow_add-turn c = omega arith
-
-pub loop-turn-smaller : goal.loop-turn-smaller
-loop-turn-smaller c = omega arith
-
 pub loop-turn-preserved : goal.loop-turn-preserved
 loop-turn-preserved c = let loop = c.loop-turn in
     searching-next _ _ _ _ loop.turn _ loop.bounds _ (omega arith) loop.invariant c.narrowed-bounds.ensures

@@ -1,7 +1,6 @@
 -- The bounds, narrowed by one row. Assumes nothing.
-use mathlib.Core.Path.{sym, ◌∙◌}
-use native.Mathlib.Omega.{arith}
-use Rattle.market.specs.promises.Parts.{in_part}
+use Rattle.std.proofs.Common.{sym, ◌∙◌, arith, rules, tests}
+use Rattle.offers.specs.promises.Ranges.{SupplyRowAt}
 use Rattle.offers.proofs.CellLaws.{row-cells}
 use Rattle.market.proofs.NarrowingLaws.{narrows-not, narrows-low, narrows-high}
 use Rattle.market.proofs.narrowing.narrowed.Goals as goal
@@ -12,18 +11,19 @@ returns-then-n-row c = narrows-not _ _ _ _ _ c.requires.bounding _ (λ h. absurd
 pub returns-then-not-is_between : goal.returns-then-not-is_between
 returns-then-not-is_between c = narrows-not _ _ _ _ _ c.requires.bounding _ (λ h. sym c.is_between.ensures ∙ c.if-not-is_between.true)
 
-pub supply_of-requires : goal.supply_of-requires
-supply_of-requires c =
-    record { supply_cells = c.requires.supply_cells; part_cells = row-cells _ _ _ c.requires.supply_cells (omega arith) }
+pub supply_of-requires-clause-callable : goal.supply_of-requires-clause-callable
+supply_of-requires-clause-callable c =
+    let limit : SupplyRowAt c.args.cells.now c.args.row = row-cells _ _ _ c.requires.supply_cells (omega arith) in
+    λ k h. let row : SupplyRowAt c.args.cells.now k = row-cells _ _ k c.requires.supply_cells h in search rules
 
 pub returns-then-supply_of-need : goal.returns-then-supply_of-need
-unfolding in_part
-returns-then-supply_of-need c = narrows-low _ _ _ _ _ c.requires.bounding _
+returns-then-supply_of-need c =
+    narrows-low _ _ _ _ _ c.requires.bounding _
     (sym c.is_between.ensures ∙ c.if-not-is_between.false)
-    _ c.supply_of.ensures (omega arith) (omega arith)
+    _ (c.supply_of.ensures _ (λ k b h e. search (rules, tests))) (omega arith) (omega arith)
 
 pub returns : goal.returns
-unfolding in_part
-returns c = narrows-high _ _ _ _ _ c.requires.bounding _
+returns c =
+    narrows-high _ _ _ _ _ c.requires.bounding _
     (sym c.is_between.ensures ∙ c.if-not-is_between.false)
-    _ c.supply_of.ensures (omega arith) (omega arith)
+    _ (c.supply_of.ensures _ (λ k b h e. search (rules, tests))) (omega arith) (omega arith)

@@ -1,5 +1,4 @@
 -- The amounts, one party a turn. Assumes nothing.
-use Prim.Native.Nat.{◌≤◌, ◌-◌}
 use Rattle.market.specs.Parties.{amount_of}
 use Rattle.cells.specs.promises.Views.{supply_at}
 use Rattle.tables.specs.promises.FlatRows.{supply_rows}
@@ -8,7 +7,4 @@ use Rattle.market.proofs.parties.add_amounts.Given as goal
 
 abbrev pub invariant-loop-i : goal.invariant-loop-i
 invariant-loop-i l =
-    (l.i ≤ l.count) × Filling (amount_of l.cutoff (supply_at l.cells l.clearing) (supply_rows l.n l.cells)) l.parties l.initial.out l.out l.i
-
-abbrev pub decreases-loop-i : goal.decreases-loop-i
-decreases-loop-i l = l.count - l.i
+    Filling (amount_of l.cutoff (supply_at l.cells l.clearing) (supply_rows l.n l.cells)) l.parties l.initial.out l.out l.i

@@ -1,28 +1,14 @@
--- The place of a number, one number passed a turn. Assumes nothing.
-use native.Mathlib.Omega.{arith}
-use Rattle.numbers.proofs.InsertLaws.{placing-none, placing-next, placing-here, placing-over}
+-- The place of a number: the first number that is not below it. Assumes nothing.
+use Rattle.std.proofs.Common.{leb, rules, tests}
+use Rattle.std.proofs.lemmas.Iterator.{YieldsList-from_slice}
+use Rattle.std.proofs.lemmas.Iterator.Search.{position_from_yields_List}
+use Rattle.numbers.proofs.InsertLaws.{placed_found}
 use Rattle.numbers.proofs.inserting.place.Goals as goal
 
-pub loop-i-init : goal.loop-i-init
-loop-i-init c = placing-none _ _
-
-pub offset_bounds-xs-i : goal.offset_bounds-xs-i
-offset_bounds-xs-i c = omega arith
-
-pub bounds-xs-i : goal.bounds-xs-i
-bounds-xs-i c = omega arith
-
-pub returns-then-x-xs : goal.returns-then-x-xs
-returns-then-x-xs c = placing-here _ _ _ c.loop-i.invariant (omega arith)
-
-pub overflow_add-i : goal.overflow_add-i
-overflow_add-i c = omega arith
-
-pub loop-i-smaller : goal.loop-i-smaller
-loop-i-smaller c = omega arith
-
-pub loop-i-preserved : goal.loop-i-preserved
-loop-i-preserved c = placing-next _ _ _ c.loop-i.invariant (omega arith) (omega arith)
-
 pub returns : goal.returns
-returns c = placing-over _ _ _ c.loop-i.invariant (omega arith)
+returns c =
+    let x = c.args.x in
+    let xs = c.args.xs.now in
+    placed_found x xs
+    (position_from_yields_List (λ y. leb x y) _ _ c.position.result c.position.ensures.ran (YieldsList-from_slice xs cc) (λ y b q k. search (rules, tests)))
+    c.unwrap_or.ensures

@@ -13,4 +13,4 @@ overflow_add-cost c = omega arith
 pub returns : goal.returns
 unfolding with_adder
 returns c = let cost = c.args.cost in
-    omega (arith, offer-with-adder cost (omega arith), c.least-2.ensures, c.least.ensures)
+    omega (arith, offer-with-adder cost (omega arith), c.min-2.ensures, c.min.ensures)

@@ -1,10 +1,12 @@
 -- A numeral out of quotes. Assumes nothing.
-use Rattle.std.proofs.Common.{eqb-true}
 use Rattle.base.proofs.Tests.{false-true}
 use Rattle.onepass.proofs.fields.begins_numeral.Goals as goal
 
-pub returns-then-b-eq-DQUOTE : goal.returns-then-b-eq-DQUOTE
-returns-then-b-eq-DQUOTE c = λ e. false-true e
+pub returns-in-Numeral : goal.returns-in-Numeral
+returns-in-Numeral c = λ e. c.in-Numeral.is
 
-pub returns : goal.returns
-returns c = λ e. eqb-true _ _ e
+pub returns-in-Signed : goal.returns-in-Signed
+returns-in-Signed c = λ e. false-true e
+
+pub returns-in-Letter : goal.returns-in-Letter
+returns-in-Letter c = λ e. false-true e

@@ -1,16 +1,11 @@
 -- A header, in quotes or not. Assumes nothing.
+use Rattle.std.proofs.lemmas.Option.{IfSome_then}
 use Rattle.onepass.specs.promises.Walk.{Begins}
-use Rattle.onepass.proofs.HeaderLaws.{quote-there, begins-second}
+use Rattle.onepass.proofs.HeaderLaws.{begins-second, starts}
 use Rattle.onepass.proofs.headers.either_end.Goals as goal
 
-pub returns-then-begins : goal.returns-then-begins
-returns-then-begins c = Begins.the-first (c.begins.ensures c.if-begins.true)
+pub returns-then-starts_with : goal.returns-then-starts_with
+returns-then-starts_with c = Begins.the-first (starts _ _ c.starts_with.ensures.value c.if-starts_with.true)
 
-pub quoted_end-requires : goal.quoted_end-requires
-quoted_end-requires c = quote-there _ (c.begins-2.ensures c.if-begins-2.true)
-
-pub returns-then-begins-2 : goal.returns-then-begins-2
-returns-then-begins-2 c = begins-second _ _ _ _ c.quoted_end.ensures
-
-pub returns : goal.returns
-returns c = Begins.neither
+pub returns-then-starts_with-2 : goal.returns-then-starts_with-2
+returns-then-starts_with-2 c = IfSome_then _ c.quoted_end.ensures (λ r t. begins-second _ _ _ r t)

@@ -2,26 +2,13 @@
 use mathlib.Core.Path.{sym, ◌∙◌}
 use Rattle.links.proofs.LinkLaws.{along-here, along-less, along-next, along-over}
 use Rattle.schedules.proofs.SearchLaws.{earlier-any}
-use native.Mathlib.Omega.{arith}
 use Rattle.schedules.proofs.odds.at_odds_along.Goals as goal
-
-pub link_at-left-requires : goal.link_at-left-requires
-link_at-left-requires c = omega arith
 
 pub loop-left-init : goal.loop-left-init
 loop-left-init c = rw c.link_at-left.ensures c.requires.along
 
-pub overflow_sub-j : goal.overflow_sub-j
-overflow_sub-j c = omega arith
-
-pub at_odds-requires : goal.at_odds-requires
-at_odds-requires c = record { schedule_width_in_bounds = omega arith; schedule_width_in_bounds_2 = omega arith }
-
 pub returns-then-at_odds : goal.returns-then-at_odds
 returns-then-at_odds c = along-here _ _ _ _ c.loop-left.invariant c.loop-left-test.true (sym c.at_odds.ensures ∙ c.if-at_odds.true) ∙ sym (earlier-any _ _ _)
-
-pub link_at-left-requires-in-loop-left : goal.link_at-left-requires-in-loop-left
-link_at-left-requires-in-loop-left c = omega arith
 
 pub loop-left-smaller : goal.loop-left-smaller
 loop-left-smaller c = rw c.link_at-left-in-loop-left.ensures (along-less _ _ _ _ c.loop-left.invariant c.loop-left-test.true)

@@ -10,9 +10,6 @@ at_odds_along-requires c =
     let a = c.args in let pre = c.requires in
     record { schedule_width_in_bounds = pre.schedule_width_in_bounds; k_in_bounds = pre.linked_to.room; along = along-units a.cells.now a.k a.links.now pre.linked_to }
 
-pub returns-then-cell-eq-M : goal.returns-then-cell-eq-M
-returns-then-cell-eq-M c = c.at_odds_along.ensures
-
 pub slice_bounds-at_odds_along-count : goal.slice_bounds-at_odds_along-count
 slice_bounds-at_odds_along-count c = omega (arith, length-drop 2048 c.args.links.now, c.requires.linked_to_2.room)
 
@@ -23,6 +20,3 @@ pub at_odds_along-requires-2 : goal.at_odds_along-requires-2
 at_odds_along-requires-2 c =
     let a = c.args in let pre = c.requires in
     rw (rest-lent 2048 a.links.now) (record { schedule_width_in_bounds = pre.schedule_width_in_bounds; k_in_bounds = pre.linked_to_2.room; along = along-schedules a.cells.now a.k (drop 2048 a.links.now) (omega arith) pre.linked_to_2 })
-
-pub returns : goal.returns
-returns c = c.at_odds_along-2.ensures

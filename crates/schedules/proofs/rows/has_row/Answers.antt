@@ -2,30 +2,18 @@
 use mathlib.Core.Path.{sym, ◌∙◌}
 use borrow.Author.Tests.{eq-eqb, ne_eqb}
 use Rattle.schedules.proofs.SearchLaws.{along-unit, rows-any}
-use Rattle.links.proofs.LinkLaws.{along-here, along-less, along-next, along-over}
+use Rattle.links.proofs.LinkLaws.{rows-by-unit, along-here, along-less, along-next, along-over}
 use native.Mathlib.Omega.{arith}
 use Rattle.schedules.proofs.rows.has_row.Goals as goal
 
-pub overflow_add-unit_key : goal.overflow_add-unit_key
-overflow_add-unit_key c = omega arith
-
 pub link_at-left-requires : goal.link_at-left-requires
-link_at-left-requires c = omega (arith, c.requires.linked.room)
+link_at-left-requires c = omega (arith, (rows-by-unit c.requires.rows_linked).room)
 
 pub loop-left-init : goal.loop-left-init
-loop-left-init c = rw c.link_at-left.ensures (let key = c.unit_key.ensures in let a = c.args in along-unit a.cells.now _ a.unit _ _ _ c.requires.linked key.0 key.1 (λ j e. e))
-
-pub overflow_sub-k : goal.overflow_sub-k
-overflow_sub-k c = omega arith
-
-pub cell-requires : goal.cell-requires
-cell-requires c = record { schedule_width_in_bounds = omega arith; column_lt_schedule_width = omega arith }
+loop-left-init c = rw c.link_at-left.ensures (let key = c.unit_key.ensures in let a = c.args in along-unit a.cells.now _ a.unit _ _ _ (rows-by-unit c.requires.rows_linked) key.0 key.1 (λ j e. e))
 
 pub returns-then-cell-unit : goal.returns-then-cell-unit
 returns-then-cell-unit c = along-here _ _ _ _ c.loop-left.invariant c.loop-left-test.true (eq-eqb _ _ (sym c.cell.ensures ∙ c.if-cell-unit.true)) ∙ sym (rows-any _ _ _)
-
-pub link_at-left-requires-in-loop-left : goal.link_at-left-requires-in-loop-left
-link_at-left-requires-in-loop-left c = omega (arith, c.loop-left.invariant.leads.room)
 
 pub loop-left-smaller : goal.loop-left-smaller
 loop-left-smaller c = rw c.link_at-left-in-loop-left.ensures (along-less _ _ _ _ c.loop-left.invariant c.loop-left-test.true)

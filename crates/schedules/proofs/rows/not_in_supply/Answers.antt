@@ -2,28 +2,16 @@
 use Rattle.std.proofs.lemmas.Bool.{not_from_true, not_from_false}
 use Rattle.links.proofs.LinkLaws.{linked_to, rows-by-unit}
 use Rattle.schedules.proofs.ScheduleLaws.{known-none, known-here, known_next, known_over}
-use native.Mathlib.Omega.{arith}
 use Rattle.schedules.proofs.rows.not_in_supply.Goals as goal
 
 pub loop-k-init : goal.loop-k-init
 loop-k-init c = known-none _ _ _
 
-pub is_known-requires : goal.is_known-requires
-is_known-requires c =
-    let pre = c.requires in
-    record { schedule_width_in_bounds = omega arith; linked_to = linked_to _ (rows-by-unit pre.rows_linked) (omega arith); count_in_bounds = pre.count_in_bounds; known_before = c.loop-k.invariant.passed }
-
-pub overflow_add-result : goal.overflow_add-result
-overflow_add-result c = omega arith
+pub is_known-requires-clause-linked_to : goal.is_known-requires-clause-linked_to
+is_known-requires-clause-linked_to c = linked_to _ (rows-by-unit c.requires.rows_linked) c.loop-k-test.true
 
 pub returns-then-not-is_known : goal.returns-then-not-is_known
-returns-then-not-is_known c = known-here _ _ _ _ _ c.loop-k.invariant c.loop-k-test.true c.is_known.ensures _ (not_from_false _ c.if-not-is_known.true) (omega arith)
-
-pub overflow_add-k : goal.overflow_add-k
-overflow_add-k c = omega arith
-
-pub loop-k-smaller : goal.loop-k-smaller
-loop-k-smaller c = omega arith
+returns-then-not-is_known c = known-here _ _ _ _ _ c.loop-k.invariant c.loop-k-test.true c.is_known.ensures (not_from_false _ c.if-not-is_known.true)
 
 pub loop-k-preserved : goal.loop-k-preserved
 loop-k-preserved c = known_next _ _ _ _ _ c.loop-k.invariant c.loop-k-test.true c.is_known.ensures (not_from_true _ c.if-not-is_known.false)

@@ -1,36 +1,23 @@
 -- The lowest unit with a schedule that lacks an hour. Assumes nothing.
+use Rattle.std.proofs.Common.{ℕ, sym, ◌∙◌, rules, tests}
+use Rattle.std.proofs.lemmas.Iterator.{YieldsList-from_slice}
+use Rattle.std.proofs.lemmas.Iterator.Adapters.{option_map_id}
+use Rattle.std.proofs.lemmas.Iterator.Consumers.{YieldsList-at, YieldsList-from_copied}
+use Rattle.std.proofs.lemmas.Iterator.Search.{find_from_yields_List}
 use Rattle.schedules.specs.Runs.{lacking}
-use Rattle.schedules.proofs.ScheduleLaws.{finding-none, finding-here, finding-next, finding-over}
-use native.Mathlib.Omega.{arith}
+use Rattle.schedules.specs.Schedules.{own}
+use Rattle.schedules.specs.promises.Steps.{lacks}
+use Rattle.tables.specs.promises.FlatRows.{schedule_rows}
+use Rattle.schedules.proofs.ScheduleLaws.{find-std}
 use Rattle.schedules.proofs.runs.lacking.Goals as goal
-
-pub loop-i-init : goal.loop-i-init
-loop-i-init c = finding-none _ _ _ (omega arith)
-
-pub offset_bounds-units-i : goal.offset_bounds-units-i
-offset_bounds-units-i c = omega arith
-
-pub bounds-units-i : goal.bounds-units-i
-bounds-units-i c = omega arith
-
-pub lacks-requires : goal.lacks-requires
-lacks-requires c =
-    let pre = c.requires in
-    record { schedule_width_in_bounds = pre.schedule_width_in_bounds; rows_linked = pre.rows_linked; checked = pre.checked }
-
-pub returns-then-lacks : goal.returns-then-lacks
-unfolding lacking
-returns-then-lacks c = finding-here _ _ _ _ _ _ c.loop-i.invariant c.loop-i-test.true (omega arith) c.lacks.ensures c.if-lacks.true
-
-pub overflow_add-i : goal.overflow_add-i
-overflow_add-i c = omega arith
-
-pub loop-i-smaller : goal.loop-i-smaller
-loop-i-smaller c = omega arith
-
-pub loop-i-preserved : goal.loop-i-preserved
-loop-i-preserved c = finding-next _ _ _ _ _ _ c.loop-i.invariant c.loop-i-test.true (omega arith) c.lacks.ensures c.if-lacks.false
 
 pub returns : goal.returns
 unfolding lacking
-returns c = finding-over _ _ _ _ c.loop-i.invariant c.loop-i-test.false
+returns c =
+    let a = c.args in
+    let p = λ (u : ℕ). lacks a.hour (own u (schedule_rows a.n a.cells.now)) in
+    sym (option_map_id c.find.result)
+    ∙ find_from_yields_List p _ _ c.find.result c.find.ensures.ran
+    (YieldsList-from_copied (YieldsList-at c.copied.ensures.source (YieldsList-from_slice a.units.now cc)))
+    (λ x b q k. search (rules, tests))
+    ∙ find-std p a.units.now

@@ -6,17 +6,11 @@ use Rattle.schedules.proofs.RunLaws.{lacks-by-stops, stops-unit, row_has}
 use native.Mathlib.Omega.{arith}
 use Rattle.schedules.proofs.runs.lacks.Goals as goal
 
-pub overflow_add-unit_key : goal.overflow_add-unit_key
-overflow_add-unit_key c = omega arith
-
 pub link_at-left-requires : goal.link_at-left-requires
 link_at-left-requires c = omega (arith, (rows-by-unit c.requires.rows_linked).room)
 
 pub loop-left-init : goal.loop-left-init
 loop-left-init c = rw c.link_at-left.ensures (let key = c.unit_key.ensures in let a = c.args in along-unit a.cells.now _ a.unit _ _ _ (rows-by-unit c.requires.rows_linked) key.0 key.1 (λ j e. stops-unit _ _ _ _ e))
-
-pub overflow_sub-k : goal.overflow_sub-k
-overflow_sub-k c = omega arith
 
 pub stops-requires : goal.stops-requires
 stops-requires c =
@@ -25,9 +19,6 @@ stops-requires c =
 
 pub returns-then-stops : goal.returns-then-stops
 returns-then-stops c = along-here _ _ _ _ c.loop-left.invariant c.loop-left-test.true (sym c.stops.ensures ∙ c.if-stops.true) ∙ sym (rows-any _ _ _) ∙ sym (lacks-by-stops _ _ _ c.requires.checked)
-
-pub link_at-left-requires-in-loop-left : goal.link_at-left-requires-in-loop-left
-link_at-left-requires-in-loop-left c = omega (arith, c.loop-left.invariant.leads.room)
 
 pub loop-left-smaller : goal.loop-left-smaller
 loop-left-smaller c = rw c.link_at-left-in-loop-left.ensures (along-less _ _ _ _ c.loop-left.invariant c.loop-left-test.true)

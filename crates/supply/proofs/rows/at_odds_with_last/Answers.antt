@@ -6,8 +6,5 @@ use Rattle.supply.proofs.rows.at_odds_with_last.Goals as goal
 pub returns-then-left-eq0 : goal.returns-then-left-eq0
 returns-then-left-eq0 c = let a = c.args in last_none a.cells.now a.k a.left c.requires.left_value (omega arith)
 
-pub returns-then-cells-k : goal.returns-then-cells-k
-returns-then-cells-k c = c.at_odds_with_earlier.ensures
-
 pub returns : goal.returns
 returns c = let a = c.args in last-alone a.cells.now a.k a.left c.requires.left_value (omega arith) c.requires.agree_before (omega arith) _ c.at_odds.ensures

@@ -6,58 +6,16 @@ use Rattle.supply.proofs.rows.first_at_odds.Goals as goal
 pub loop-k-init : goal.loop-k-init
 loop-k-init c = agreeing-none _ _ _ (omega arith) (omega arith) c.requires.unlinked
 
-pub overflow_mul-k : goal.overflow_mul-k
-overflow_mul-k c = omega arith
-
-pub overflow_add-k : goal.overflow_add-k
-overflow_add-k c = omega arith
-
-pub offset_bounds-cells-k : goal.offset_bounds-cells-k
-offset_bounds-cells-k c = omega arith
-
-pub bounds-cells-k : goal.bounds-cells-k
-bounds-cells-k c = omega arith
-
-pub offset_bounds-last-key : goal.offset_bounds-last-key
-offset_bounds-last-key c = omega arith
-
-pub bounds-last-key : goal.bounds-last-key
-bounds-last-key c = omega arith
-
 pub at_odds_with_last-requires : goal.at_odds_with_last-requires
 at_odds_with_last-requires c =
     let a = c.loop-k.invariant in let key = c.unit_key-key.ensures in let last = last-keyed _ _ _ _ a key.0 key.1 in
     record { supply_width_in_bounds = omega arith; left_le_k = keyed-upto c.args.cells.now _ _ last; left_value = last; agree_before = a.agree }
 
-pub overflow_add-result : goal.overflow_add-result
-overflow_add-result c = omega arith
-
-pub shape_of-last-then-at_odds_with_last : goal.shape_of-last-then-at_odds_with_last
-shape_of-last-then-at_odds_with_last c = c.loop-k.invariant.same_length
-
 pub returns-then-at_odds_with_last : goal.returns-then-at_odds_with_last
 returns-then-at_odds_with_last c = agreeing-here _ _ _ _ _ _ c.loop-k.invariant c.loop-k-test.true c.at_odds_with_last.ensures c.if-at_odds_with_last.true
 
-pub overflow_add-last : goal.overflow_add-last
-overflow_add-last c = omega arith
-
-pub offset_bounds-last-key-in-loop-k : goal.offset_bounds-last-key-in-loop-k
-offset_bounds-last-key-in-loop-k c = omega arith
-
-pub bounds-last-key-in-loop-k : goal.bounds-last-key-in-loop-k
-bounds-last-key-in-loop-k c = omega arith
-
-pub overflow_add-k-in-loop-k : goal.overflow_add-k-in-loop-k
-overflow_add-k-in-loop-k c = omega arith
-
-pub loop-k-smaller : goal.loop-k-smaller
-loop-k-smaller c = omega arith
-
 pub loop-k-preserved : goal.loop-k-preserved
 loop-k-preserved c = let key = c.unit_key-key.ensures in agreeing-next _ _ _ _ _ _ c.loop-k.invariant c.loop-k-test.true c.at_odds_with_last.ensures _ _ c.if-at_odds_with_last.false key.0 key.1 (omega arith)
-
-pub shape_of-last : goal.shape_of-last
-shape_of-last c = c.loop-k.invariant.same_length
 
 pub returns : goal.returns
 returns c = agreeing-over _ _ _ _ _ c.loop-k.invariant c.loop-k-test.false

@@ -5,6 +5,3 @@ use Rattle.supply.proofs.rows.supply_at_odds.Goals as goal
 
 pub first_at_odds-requires : goal.first_at_odds-requires
 first_at_odds-requires c = record { supply_width_in_bounds = c.requires; unit_keys_in_bounds = omega arith; unlinked = unlinked 1024 }
-
-pub returns : goal.returns
-returns c = c.first_at_odds.ensures

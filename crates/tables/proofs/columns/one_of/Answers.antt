@@ -6,9 +6,6 @@ use Rattle.tables.proofs.columns.one_of.Goals as goal
 pub returns-then-text-ne1 : goal.returns-then-text-ne1
 returns-then-text-ne1 c = one-of-long _ _ _ c.if-text-ne1.true
 
-pub overflow_cast-letter : goal.overflow_cast-letter
-overflow_cast-letter c = omega (arith, c.shared_slice_known-1.given 0)
-
 pub returns-then-letter-a : goal.returns-then-letter-a
 returns-then-letter-a c = one-of-first _ _ _ c.if-text-ne1.false c.if-letter-a.true
 

@@ -12,37 +12,10 @@ loop-c-init c =
     (rw (c.first_column-first.ensures, c.width-columns.ensures) (within_all f))
     (rw c.width-columns.ensures c.requires)
 
-pub overflow_add-first : goal.overflow_add-first
-overflow_add-first c = omega arith
-
-pub read_field-field-requires : goal.read_field-field-requires
-read_field-field-requires c = omega arith
-
-pub bounds-out-c : goal.bounds-out-c
-bounds-out-c c = omega arith
-
-pub slice_bounds-rest-count : goal.slice_bounds-rest-count
-slice_bounds-rest-count c = omega arith
-
-pub slice_bounds-rest-start : goal.slice_bounds-rest-start
-slice_bounds-rest-start c = omega arith
-
-pub slice_bounds-rest-end : goal.slice_bounds-rest-end
-slice_bounds-rest-end c = omega arith
-
-pub overflow_add-c : goal.overflow_add-c
-overflow_add-c c = omega arith
-
-pub loop-c-smaller : goal.loop-c-smaller
-loop-c-smaller c = omega arith
-
 pub loop-c-preserved : goal.loop-c-preserved
 loop-c-preserved c =
-    rw c.both-good.ensures
+    rw (c.unwrap_or.ensures, c.is_some-good.ensures)
     (laying-next _ _ _ _ _ c.loop-c.rest.now _ _ c.read_field-field.result c.loop-c.invariant (omega arith) c.read_field-field.ensures)
-
-pub shape_of-out : goal.shape_of-out
-shape_of-out c = c.loop-c.invariant.same_length
 
 pub returns : goal.returns
 returns c =

@@ -1,5 +1,4 @@
 -- Rows, one a turn. Assumes nothing.
-use Prim.Native.Nat.{◌-◌}
 use mathlib.Core.Path.{◌≡◌}
 use Rattle.tables.specs.Table.{width}
 use Rattle.tables.proofs.RowLaws.{LayingRows}
@@ -8,6 +7,3 @@ use Rattle.tables.proofs.rows.lay_rows.Given as goal
 abbrev pub invariant-loop-k : goal.invariant-loop-k
 invariant-loop-k l =
     (l.columns ≡ width l.file) × LayingRows l.file l.s l.count l.initial.cells l.cells l.rest l.at l.run l.k
-
-abbrev pub decreases-loop-k : goal.decreases-loop-k
-decreases-loop-k l = l.count - l.k

@@ -8,4 +8,4 @@ pub check_market-check-requires-clause-room_in_bounds : goal.check_market-check-
 check_market-check-requires-clause-room_in_bounds g c = omega (arith, supply-room)
 
 pub with_market-requires : goal.with_market-requires
-with_market-requires g c = market-fits _ _ _ _ c.check_market-check.ensures _ c.in-Passed.is (omega arith)
+with_market-requires g c = market-fits _ _ _ _ c.check_market-check.ensures _ c.in-Ok.is (omega arith)

@@ -7,4 +7,4 @@ pub read-reading-requires : goal.read-reading-requires
 read-reading-requires g c = room-enough _ (omega arith)
 
 pub choose-requires : goal.choose-requires
-choose-requires g c = read-rows _ _ _ _ _ c.read-reading.ensures c.in-Rows.is (omega arith)
+choose-requires g c = read-rows _ _ _ _ _ c.read-reading.ensures c.in-Ok.is (omega arith)

@@ -10,4 +10,4 @@ pub read-reading-requires : goal.read-reading-requires
 read-reading-requires g c = room-enough _ (omega arith)
 
 pub print_market-requires : goal.print_market-requires
-print_market-requires g c = read-cells _ _ _ _ _ c.read-reading.ensures c.in-Rows.is (omega arith)
+print_market-requires g c = read-cells _ _ _ _ _ c.read-reading.ensures c.in-Ok.is (omega arith)

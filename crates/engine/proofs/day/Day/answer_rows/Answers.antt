@@ -6,7 +6,7 @@ use Rattle.engine.proofs.StudyLaws.{answers-short-buffer, answers-written}
 use Rattle.engine.proofs.day.Day.answer_rows.Goals as goal
 
 pub returns-then-answer-length : goal.returns-then-answer-length
-returns-then-answer-length c = answers-short-buffer _ _ _ _ _ c.length.ensures (omega arith) _ c.refuse_study.ensures
+returns-then-answer-length c = answers-short-buffer _ _ _ _ _ c.length.ensures (omega arith) _ (rw c.bare.ensures at c.refuse_study.ensures)
 
 pub merged-requires : goal.merged-requires
 merged-requires c =

@@ -3,10 +3,10 @@ use Rattle.outcome.specs.Day.{earlier}
 use Rattle.engine.specs.View.{view_of}
 use Rattle.engine.proofs.day.Day.is_earlier.Goals as goal
 
-pub returns-in-Fresh : goal.returns-in-Fresh
+pub returns-in-None : goal.returns-in-None
 unfolding earlier view_of
-returns-in-Fresh c = rw c.in-Fresh.is
+returns-in-None c = rw c.in-None.is
 
-pub returns-in-At : goal.returns-in-At
+pub returns-in-Some : goal.returns-in-Some
 unfolding earlier view_of
-returns-in-At c = rw c.in-At.is
+returns-in-Some c = rw c.in-Some.is

@@ -5,17 +5,17 @@ use Rattle.engine.proofs.PreviewLaws.{preview-refused, preview-answered, preview
 use Rattle.engine.proofs.day.Day.preview.Goals as goal
 
 pub row_for-requires : goal.row_for-requires
-row_for-requires c = (c.decide-deciding.ensures.decides _ _ c.in-Rows.is).ready.there
+row_for-requires c = (c.decide-deciding.ensures.decides _ c.in-Ok.is).ready.there
 
-pub returns-in-Refused : goal.returns-in-Refused
-returns-in-Refused c =
-    let refuses = c.decide-deciding.ensures.refuses _ c.in-Refused.is in
+pub returns-in-Err : goal.returns-in-Err
+returns-in-Err c =
+    let refuses = c.decide-deciding.ensures.refuses _ c.in-Err.is in
     let previews = preview-refused _ _ _ _ _ refuses c.looked_at.ensures in
     record { previews = previews; previews_right = previews-right _ _ _ _ previews }
 
-pub returns-in-Rows : goal.returns-in-Rows
-returns-in-Rows c =
-    let laid = c.decide-deciding.ensures.decides _ _ c.in-Rows.is in
-    let answered = c.looked_at-in-Rows.ensures ∙ ap (looked_at _) c.row_for.ensures in
+pub returns-in-Ok : goal.returns-in-Ok
+returns-in-Ok c =
+    let laid = c.decide-deciding.ensures.decides _ c.in-Ok.is in
+    let answered = c.looked_at-in-Ok.ensures ∙ ap (looked_at _) c.row_for.ensures in
     let previews = preview-answered _ _ _ _ laid.accepted _ laid.laid answered in
     record { previews = previews; previews_right = previews-right _ _ _ _ previews }

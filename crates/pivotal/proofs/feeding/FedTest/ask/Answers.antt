@@ -15,5 +15,5 @@ pub returns : goal.returns
 unfolding left_kept
 returns c =
     let t = c.args.self in
-    let kept : c.less-left.result ≡ left_kept t = omega (arith, c.less-left.ensures, c.less.ensures) in
+    let kept : c.saturating_sub-left.result ≡ left_kept t = omega (arith, c.saturating_sub-left.ensures, c.saturating_sub.ensures) in
     answers-asked (rw (c.found.ensures, kept) (sym (asked-within t (omega arith) (omega arith))))

@@ -1,8 +1,13 @@
 -- The two largest with one amount more. Assumes nothing.
+use Prim.Native.Nat.{max, min}
+use mathlib.Core.Path.{◌≡◌}
 use native.Mathlib.Omega.{arith}
-use Rattle.pivotal.proofs.Amounts.{largest-with}
+use Rattle.pivotal.specs.Test.{largest_with}
 use Rattle.pivotal.proofs.feeding.Largest.with.Goals as goal
 
 pub returns : goal.returns
+unfolding largest_with
 returns c =
-    largest-with _ _ _ _ c.greater.ensures (omega (arith, c.greater-2.ensures, c.lesser-displaced.ensures))
+    let l = c.args.self in
+    let second : c.max-2.result ≡ max l.second (min l.first c.args.amount) = omega (arith, c.max-2.ensures, c.min-displaced.ensures) in
+    rw (c.max.ensures, second)

@@ -1,18 +1,11 @@
 -- Units by their count, and one after the other. Assumes nothing.
-use Prim.Native.Nat.{◌≤◌, ◌-◌}
 use mathlib.Core.Path.{◌≡◌}
+use mathlib.Core.List.{map}
 use lib.ListN.{drop}
-use Rattle.outcome.specs.Day.{most_running, rising_in_range}
+use Rattle.outcome.specs.Day.{rising_in_range}
 use Rattle.running.specs.promises.Forming.{units_formed}
-use Rattle.running.specs.View.{first_units, units_of}
+use Rattle.running.specs.View.{unit_of, units_of}
 use Rattle.running.proofs.units.Units.is_formed.Given as goal
 
-abbrev pub invariant-loop-i : goal.invariant-loop-i
-invariant-loop-i l =
-    (l.i ≤ l.count)
-    × (l.count ≡ l.self.count)
-    × (l.count ≤ most_running)
-    × (units_formed (units_of l.self) ≡ rising_in_range l.last (drop l.i (first_units l.self.count l.self.running)))
-
-abbrev pub decreases-loop-i : goal.decreases-loop-i
-decreases-loop-i l = l.count - l.i
+abbrev pub invariant-loop-r : goal.invariant-loop-r
+invariant-loop-r l = units_formed (units_of l.fn.self) ≡ rising_in_range l.last (map unit_of (drop l.r-index l.r-items))

@@ -1,6 +1,0 @@
--- What stands at a place, widened. Assumes nothing.
-use native.Mathlib.Omega.{arith}
-use Rattle.affiliates.proofs.parents.at_place.Goals as goal
-
-pub overflow_cast-result : goal.overflow_cast-result
-overflow_cast-result c = omega (arith, c.shared_slice_known-1.given c.args.supplier)

@@ -1,9 +1,0 @@
--- A place of 0 is no record. Assumes nothing.
-use borrow.Author.Tests.{eq-eqb, ne_eqb}
-use Rattle.checking.proofs.answers.at_record.Goals as goal
-
-pub returns-then-place-eq0 : goal.returns-then-place-eq0
-returns-then-place-eq0 c = rw (eq-eqb _ _ c.if-place-eq0.true)
-
-pub returns : goal.returns
-returns c = rw (ne_eqb _ _ c.if-place-eq0.false)

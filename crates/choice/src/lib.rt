@@ -9,7 +9,8 @@ mod costs;
 mod kinds;
 mod prices;
 mod rows;
+mod scheduled;
 
 pub use choices::Choice;
-pub use choosing::{choose, has_any};
 pub use kinds::Kinds;
+pub use scheduled::Schedules;

@@ -16,7 +16,7 @@ ghost use Rattle.decision.specs.promises.Units.{UnitsOf};
 use crate::choosing::{choose_for, lacks_cost};
 use crate::testing::{Tests, UnitTest, test_units};
 use cells::{Sizes, answer};
-use choice::Choice;
+use choice::{Choice, Schedules};
 use running::Units;
 use tables::{ConstraintRow, Kind, letter_of};
 
@@ -47,48 +47,28 @@ pub fn decide(
 {
     let k = sizes.units;
     let tests = test_units(constraint, supply, sizes.supply, units, k);
-    choose_rows(
-        constraint.hour,
-        schedules,
-        sizes.schedules,
-        links,
-        running,
-        tests,
-        k,
-        rows,
-    )
+    let schedules = Schedules::of(schedules, sizes.schedules, links);
+    choose_rows(constraint.hour, &schedules, running, tests, k, rows)
 }
 
 // Chooses a schedule for each of the first `k` units that have been tested, and lays down their rows.
 fn choose_rows(
     hour: u64,
-    schedules: &[u64],
-    m: usize,
-    links: &[u16],
+    schedules: &Schedules<'_>,
     running: Units,
     tests: Tests,
     k: usize,
     rows: &mut [u64],
 ) -> Result<(), NoCostSchedule>
-    requires schedule_cells { ScheduleCells m schedules.now }
-    requires rows_linked { RowsLinked schedules.now m links.now }
     requires count_le_most_running { running.count ≤ most_running }
     requires k_le_most_units { k ≤ most_units }
     requires answer_width_in_bounds { k * answer_width ≤ length rows.old }
-    ensures { ChoosesRows hour (schedule_rows m schedules.now) (units_of running) (take k tests.tests) k rows.new result }
+    ensures { ChoosesRows hour schedules.now (units_of running) (take k tests.tests) k rows.new result }
 {
     for i in 0..k {
         let test = tests.tests[i];
         let day = running.day_kind(test.unit);
-        if !choose_row(
-            hour,
-            schedules,
-            m,
-            links,
-            test,
-            day,
-            &mut rows[i * answer::WIDTH..],
-        ) {
+        if !choose_row(hour, schedules, test, day, &mut rows[i * answer::WIDTH..]) {
             return Err(NoCostSchedule { unit: test.unit });
         }
     }
@@ -98,22 +78,18 @@ fn choose_rows(
 // Chooses a unit's schedule and lays down its row; not where it runs on cost and has no C schedule.
 fn choose_row(
     hour: u64,
-    schedules: &[u64],
-    m: usize,
-    links: &[u16],
+    schedules: &Schedules<'_>,
     test: UnitTest,
     day: Option<Kind>,
     row: &mut [u64],
 ) -> bool
-    requires schedule_cells { ScheduleCells m schedules.now }
-    requires rows_linked { RowsLinked schedules.now m links.now }
     requires answer_width_in_bounds { answer_width ≤ length row.old }
-    ensures { RowChosen hour (own test.unit (schedule_rows m schedules.now)) day test row.old row.new result }
+    ensures { RowChosen hour (own test.unit schedules.now) day test row.old row.new result }
 {
-    if lacks_cost(schedules, m, links, hour, test.unit, day) {
+    if lacks_cost(schedules, hour, test.unit, day) {
         return false;
     }
-    let choice = choose_for(schedules, m, links, hour, test, day);
+    let choice = choose_for(schedules, hour, test, day);
     lay_row(test, choice, row);
     true
 }

@@ -6,7 +6,7 @@ ghost use Rattle.choice.specs.promises.Ranges.{ScheduleCells};
 
 use cells::schedule::{UNIT, cell};
 use checking::SCHEDULE_CELLS;
-use choice::Choice;
+use choice::{Choice, Schedules};
 use links::LENGTH;
 use schedules::link_rows;
 use std::io;
@@ -57,7 +57,8 @@ fn choose_linked(
     requires schedule_cells { ScheduleCells n cells.now }
     requires rows_linked { RowsLinked cells.now n links.now }
 {
-    match choice::choose(cells, n, links, unit(cells, n), hour, is_exposed, day) {
+    let schedules = Schedules::of(cells, n, links);
+    match schedules.choose(unit(cells, n), hour, is_exposed, day) {
         Some(c) => print_choice(rt, c),
         None => rt.write_all(b"nothing\n"),
     }

@@ -5,7 +5,7 @@ use Rattle.decision.proofs.deciding.decide.Goals as goal
 pub choose_rows-requires : goal.choose_rows-requires
 choose_rows-requires c =
     let pre = c.requires in
-    record { schedule_cells = pre.schedule_cells; rows_linked = pre.rows_linked; count_le_most_running = pre.count_le_most_running; k_le_most_units = pre.units_of.few; answer_width_in_bounds = pre.answer_width_in_bounds }
+    record { count_le_most_running = pre.count_le_most_running; k_le_most_units = pre.units_of.few; answer_width_in_bounds = pre.answer_width_in_bounds }
 
 pub returns : goal.returns
-returns c = decides-rows _ _ _ _ _ _ c.requires.units_of _ c.test_units-tests.ensures _ _ c.choose_rows.ensures
+returns c = rw (← c.of-schedules.ensures) (decides-rows _ _ _ _ _ _ c.requires.units_of _ c.test_units-tests.ensures _ _ c.choose_rows.ensures)

@@ -19,7 +19,7 @@ use links::{ROWS, link_at, unit_key};
 use tables::Kind;
 
 // The schedule chosen for a unit, of the first `n` rows; nothing where none is eligible.
-pub(crate) fn choose(
+pub fn choose(
     cells: &[u64],
     n: usize,
     links: &[u16],
@@ -50,14 +50,7 @@ pub(crate) fn choose(
 }
 
 // Whether the unit has a schedule of these kinds.
-pub(crate) fn has_any(
-    cells: &[u64],
-    n: usize,
-    links: &[u16],
-    unit: u64,
-    hour: u64,
-    kinds: Kinds,
-) -> bool
+pub fn has_any(cells: &[u64], n: usize, links: &[u16], unit: u64, hour: u64, kinds: Kinds) -> bool
     requires schedule_cells { ScheduleCells n cells.now }
     requires rows_linked { RowsLinked cells.now n links.now }
     ensures { result ≡ has_any kinds (schedules hour (own unit (schedule_rows n cells.now))) }

@@ -12,5 +12,6 @@ mod rows;
 mod scheduled;
 
 pub use choices::Choice;
+pub use choosing::{choose, has_any};
 pub use kinds::Kinds;
 pub use scheduled::Schedules;

@@ -54,20 +54,22 @@ fn next(text: &[u8]) -> Option<Step>
     if text[1] == b'x' {
         return numbered(text);
     }
-    let byte = named(text[1])?;
-    Some(Step { used: 2, byte })
+    named(text[1])
 }
 
-// The byte behind `\`.
-fn named(name: u8) -> Option<u8> {
-    match name {
-        b'r' => Some(b'\r'),
-        b'n' => Some(b'\n'),
-        b't' => Some(b'\t'),
-        b's' => Some(b' '),
-        b'\\' => Some(BACKSLASH),
-        _ => None,
-    }
+// The byte that a name behind `\` stands for; it takes both bytes of the text.
+fn named(name: u8) -> Option<Step>
+    ensures { IfSome result (λ step. (0 < step.used) × (step.used ≤ 2)) }
+{
+    let byte = match name {
+        b'r' => b'\r',
+        b'n' => b'\n',
+        b't' => b'\t',
+        b's' => b' ',
+        b'\\' => BACKSLASH,
+        _ => return None,
+    };
+    Some(Step { used: 2, byte })
 }
 
 // The byte of the two hexadecimal digits behind `\x`.

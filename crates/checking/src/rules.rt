@@ -41,7 +41,8 @@ pub fn hold(
 
 // Curves, then parents, then 8 and 9. Curves are checked by two calls, one for each way to go on: a
 // function with one call is compiled into its caller, and then the large array of points would lie in the
-// frame of every study, with curves or without.
+// frame of every study, with curves or without. The first way has its `match` written out: an edit turns what is
+// answered where curves are refused.
 fn hold_priced(
     hour: u64,
     parents: Result<usize, Refusal>,
@@ -60,10 +61,10 @@ fn hold_priced(
         return hold_unpriced(hour, parents, cells, n, links, units);
     }
     match parents {
-        Err(waiting) => {
-            check_curves(curves, cells, n, units)?;
-            Err(waiting)
-        }
+        Err(waiting) => match check_curves(curves, cells, n, units) {
+            Err(sooner) => Err(sooner),
+            Ok(_) => Err(waiting),
+        },
         Ok(_) => {
             check_curves(curves, cells, n, units)?;
             hold_units(hour, cells, n, links, units)

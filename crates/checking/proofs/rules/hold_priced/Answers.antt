@@ -15,17 +15,15 @@ hold_units-requires c =
     let pre = c.requires in let checked = c.check_curves-in-Ok.ensures in let passed = c.in_ok-check_curves-in-Ok.was in
     record { schedule_width_in_bounds = search rules; rows_linked = still-linked _ _ _ _ checked passed pre.rows_linked; checked = still-checked _ _ _ _ checked passed _ pre.checked }
 
-pub returns-in_err-check_curves-in-Err : goal.returns-in_err-check_curves-in-Err
-returns-in_err-check_curves-in-Err c =
-    let p = err_from_is_err_and c.from_residual.result c.from_residual.ensures.1 in
-    rw (p.1, p.2) (curves-refused _ _ _ _ c.check_curves.ensures _ _ _ c.in_err-check_curves-in-Err.was)
+pub returns-in-Err-check_curves : goal.returns-in-Err-check_curves
+returns-in-Err-check_curves c = curves-refused _ _ _ _ c.check_curves.ensures _ _ _ c.in-Err-check_curves.is
 
-pub returns-in_ok-check_curves-in-Err : goal.returns-in_ok-check_curves-in-Err
-returns-in_ok-check_curves-in-Err c = waited _ _ _ _ c.check_curves.ensures _ _ _ c.in_ok-check_curves-in-Err.was (ap refusal_in c.in-Err.is)
+pub returns-in-Ok-check_curves : goal.returns-in-Ok-check_curves
+returns-in-Ok-check_curves c = waited _ _ _ _ c.check_curves.ensures _ _ _ c.in-Ok-check_curves.is (ap refusal_in c.in-Err.is)
 
 pub returns-in_err-check_curves-in-Ok : goal.returns-in_err-check_curves-in-Ok
 returns-in_err-check_curves-in-Ok c =
-    let p = err_from_is_err_and c.from_residual-in_err-check_curves-in-Ok.result c.from_residual-in_err-check_curves-in-Ok.ensures.1 in
+    let p = err_from_is_err_and c.from_residual.result c.from_residual.ensures.1 in
     rw (p.1, p.2) (curves-refused _ _ _ _ c.check_curves-in-Ok.ensures _ _ _ c.in_err-check_curves-in-Ok.was)
 
 pub returns-in_ok-check_curves-in-Ok : goal.returns-in_ok-check_curves-in-Ok

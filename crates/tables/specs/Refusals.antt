@@ -1,6 +1,6 @@
 -- Document 01, "Refused because of the input": "Every refusal gives number, file (1 constraint, 2 supply, 3 schedules, 0 none) and
 -- place." Here what a refusal is, and what a call that gives none tells instead. Assumes nothing.
-use Rattle.std.specs.Prelude.{ℕ, Bool, cond, Option, None, Some, unwrap_or, Result, Ok, Err}
+use Rattle.std.specs.Prelude.{ℕ, Bool, cond, List, ◌∷◌, ◌++◌, Option, None, Some, unwrap_or, Result, Ok, Err, decimal}
 use Rattle.tables.specs.Table.{table}
 use Rattle.tables.specs.declared.files.File.{File}
 use Rattle.tables.specs.declared.files.Refusal.{Refusal}
@@ -29,3 +29,7 @@ told_by (Err r) = r
 abbrev pub count_of : Result ℕ Refusal → ℕ
 count_of (Ok count) = count
 count_of (Err r) = 0
+
+-- number, file and place as programs print them: `2,1,0`
+abbrev pub refusal_text : Refusal → List ℕ
+refusal_text r = decimal r.number ++ 44 ∷ decimal r.file ++ 44 ∷ decimal r.place

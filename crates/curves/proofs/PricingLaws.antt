@@ -119,10 +119,10 @@ module _ (m : ℕ) (points places : List ℕ) (n : ℕ) (old : List ℕ) where
     in-file : i < m
     in-file = omega (arith, l.upto)
 
-    pricing-some : 0 < get_or places i 0
+    pub pricing-some : 0 < get_or places i 0
     pricing-some = l.placed.some-row i in-file
 
-    pricing-row : (k : ℕ) → k ≡ get_or places i 0 - 1 → k < n
+    pub pricing-row : (k : ℕ) → k ≡ get_or places i 0 - 1 → k < n
     pricing-row k e = omega (arith, pricing-some, l.placed.upto i in-file)
 
     module _ (k : ℕ) (e : k ≡ get_or places i 0 - 1) where

@@ -22,7 +22,7 @@ kept-length b = go (eqb b DQUOTE)
     go true = refl
     go false = refl
 
-byte_small : (b : ℕ) → bool_byte (not (eqb b DQUOTE)) ≤ 1
+pub byte_small : (b : ℕ) → bool_byte (not (eqb b DQUOTE)) ≤ 1
 byte_small b = omega (arith, kept-length b, kept-short b)
 
 module _ (s : List ℕ) where
